@@ -5,9 +5,9 @@ from pathlib import Path
 
 from clubcard.tables import Table, read_config
 
-from .plan import MOST_NAMES, Before, Log, Plan, pages_in, program_of, test
+from .plan import MOST_NAMES, PUBLISHED, Before, Log, Places, Plan, pages_in, program_of, test
 
-_KEYS = "epoch moment program workers pages before crl log".split()
+_KEYS = "epoch moment program workers pages places before crl log".split()
 _MOST = (1 << 64) - 1
 
 
@@ -18,9 +18,8 @@ def load(path: Path) -> Plan:
     crls = tuple(_crl(each, base) for each in table.tables("crl"))
     logs = tuple(_log(each, base) for each in table.tables("log"))
     before = _before(table, base) if "before" in table.values else None
-    read = (
-        [file for _, file in crls] + [page for log in logs for page in log.pages] + list(before.files if before else ())
-    )
+    read = [file for _, file in crls] + [page for log in logs for page in log.pages]
+    read += [f"{folder}/{PUBLISHED}" for folder in before.folders] if before else []
     plan = Plan(
         program=program_of(table.text("program", '"clubcard"', "clubcard"), base),
         epoch=_number(table, "epoch", "1"),
@@ -29,6 +28,7 @@ def load(path: Path) -> Plan:
         most=table.number("pages", 256, 1, MOST_NAMES),
         crls=crls,
         logs=tuple(sorted(logs, key=lambda log: log.log)),
+        places=_places(table) if "places" in table.values else None,
         before=before,
         seen={file: _seen(file) for file in read},
     )
@@ -66,11 +66,20 @@ def _log(table: Table, base: Path) -> Log:
     return Log(_key(table, "log"), low, high, pages_in(base / table.text("pages", '"pages"')))
 
 
+def _places(top: Table) -> Places:
+    table = Table(f"{top.place}: [places]", top.value("places", dict, "[places], a table"))
+    table.only(("by", "count"))
+    by = table.text("by", '"issuer"')
+    if by not in ("issuer", "identity"):
+        raise table.wrong("by", f'{by!r} is neither "issuer" nor "identity": write by = "issuer"')
+    table.value("count", int, "16")
+    return Places(by, table.number("count", 16, 1, MOST_NAMES))
+
+
 def _before(top: Table, base: Path) -> Before:
     table = Table(f"{top.place}: [before]", top.value("before", dict, "[before], a table"))
-    table.only(("ledger", "store", "jobs"))
-    ledger, store = (str(base / table.text(key, f'"{key}"')) for key in ("ledger", "store"))
-    return Before(ledger, store, tuple(str(base / job) for job in table.texts("jobs", '["1/job"]')))
+    table.only(("folders",))
+    return Before(tuple(str(base / folder) for folder in table.texts("folders", '["1"]')))
 
 
 def _seen(file: str) -> tuple[int, int]:

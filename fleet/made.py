@@ -1,15 +1,15 @@
 """What tasks make. Each file is written under a name of the task's own and put in place whole; one that is there stays.
 
 A task that was given up may live on, on a node that nobody reaches, and end beside another run of it or behind it. Both
-make the same bytes: else the later one fails, and changes nothing. Beside each file stands its record (`.made`): its
-digest and those of the made files of which it was made, by which they are compared before they are used or published.
+make the same bytes: else the later one fails, and changes nothing. Behind its files a task puts a record (`.made`): the
+digests of them and of the files of which they were made, by which all are compared before they are used or published.
 """
 
 import json
 import os
 import secrets
 from collections.abc import Iterable, Mapping
-from dataclasses import dataclass
+from dataclasses import asdict, dataclass
 from pathlib import Path
 from typing import Any
 
@@ -21,12 +21,19 @@ class Differs(Exception):
 
 
 @dataclass(frozen=True)
-class Record:
-    """The SHA-256 of a file in hexadecimal, its size, what the program said of it, and the SHA-256 of each made file of
-    which it was made."""
+class File:
+    """The SHA-256 of a file in hexadecimal, and its size."""
 
     sha256: str
     size: int
+
+
+@dataclass(frozen=True)
+class Record:
+    """The files that a task made, what the program said of them, and the SHA-256 of each file of which they were made,
+    in hexadecimal."""
+
+    files: Mapping[str, File]
     said: Mapping[str, Any]
     of: Mapping[str, str]
 
@@ -36,9 +43,9 @@ def own_name(path: Path) -> Path:
     return new_name(path.with_name(f"{path.name}.{secrets.token_hex(8)}"))
 
 
-def record_name(path: str) -> Path:
-    """Where the record of a file stands."""
-    return Path(f"{path}.made")
+def record_name(name: str) -> Path:
+    """Where a record stands."""
+    return Path(f"{name}.made")
 
 
 def put(own: Path, path: Path) -> str:
@@ -73,25 +80,35 @@ def put_text(text: str, path: Path) -> None:
     put(own, path)
 
 
-def put_made(own: Path, path: str, said: Mapping[str, Any], of: Mapping[str, str]) -> None:
-    """Puts a file in place, and then its record."""
-    size = own.stat().st_size
-    record = {"sha256": put(own, Path(path)), "size": size, "said": dict(said), "of": dict(of)}
-    put_text(json.dumps(record, indent=1, sort_keys=True) + "\n", record_name(path))
+def put_made(name: str, owns: Mapping[str, Path], said: Mapping[str, Any], of: Mapping[str, str]) -> None:
+    """Puts files in place, each from its own name, and then their record."""
+    files = {}
+    for path, own in owns.items():
+        size = own.stat().st_size
+        files[path] = File(put(own, Path(path)), size)
+    record = asdict(Record(files, said, of))
+    put_text(json.dumps(record, indent=1, sort_keys=True) + "\n", record_name(name))
 
 
-def record_of(path: str) -> Record:
-    """The record of a file."""
-    return Record(**json.loads(record_name(path).read_text(encoding="utf-8")))
+def record_of(name: str) -> Record:
+    """A record by its name."""
+    fields = json.loads(record_name(name).read_text(encoding="utf-8"))
+    fields["files"] = {path: File(**file) for path, file in fields["files"].items()}
+    return Record(**fields)
 
 
-def compared(paths: Iterable[str]) -> dict[str, str]:
-    """The SHA-256 of each file, which is that of its record. Raises Differs where one isn't."""
+def made_in(records: Iterable[Record]) -> dict[str, File]:
+    """All files of records."""
+    return {path: file for record in records for path, file in record.files.items()}
+
+
+def compared(paths: Iterable[str], files: Mapping[str, File]) -> dict[str, str]:
+    """The SHA-256 of each of some files, which is the one that is told. Raises Differs where it isn't."""
     found = {}
     for path in paths:
         found[path] = _digest(Path(path))
-        if found[path] != record_of(path).sha256:
-            raise Differs(f"{path}: its SHA-256 is {found[path]}, and its record has {record_of(path).sha256}")
+        if found[path] != files[path].sha256:
+            raise Differs(f"{path}: its SHA-256 is {found[path]}, and its record has {files[path].sha256}")
     return found
 
 

@@ -5,16 +5,20 @@ import shutil
 from collections.abc import Mapping
 from dataclasses import asdict, dataclass
 from pathlib import Path
+from typing import Any
 
 from clubcard.jobs import MOST_CRLS, MOST_RANGES
 
+from .made import File
+
 PLAN = "plan.json"
+HEADS = "heads"
+"""The name of what `heads` makes: HEAD and BARE, and of each place what it has of HEAD."""
 HEAD = "head.job"
 """A job with the epoch's ranges and CRLs, and no entries."""
 BARE = "piece.job"
 """A job of the epoch with nothing in it, behind which the entries of a piece stand."""
 PUBLISHED = "published.json"
-PLACES = ("whole",)
 MADE = ("job", "part", "ledger", "store")
 """What is made of each place."""
 MOST_NAMES = 1024
@@ -36,16 +40,45 @@ class Log:
 
 
 @dataclass(frozen=True)
+class Places:
+    """Into how many histories one is cut, each with a chain of its own, and by what: the word of `cut`."""
+
+    by: str
+    count: int
+
+    def __str__(self) -> str:
+        return f"{self.count} by {self.by}"
+
+
+@dataclass(frozen=True)
 class Before:
-    """The chain so far: its ledger, its store, and its jobs in order."""
+    """The chain so far: the folder of each epoch, in order."""
 
-    ledger: str
-    store: str
-    jobs: tuple[str, ...]
+    folders: tuple[str, ...]
 
-    @property
-    def files(self) -> tuple[str, ...]:
-        return self.ledger, self.store, *self.jobs
+    def ledger(self, place: str) -> str:
+        """The newest ledger."""
+        return f"{self.folders[-1]}/{place}/ledger"
+
+    def store(self, place: str) -> str:
+        """The newest store."""
+        return f"{self.folders[-1]}/{place}/store"
+
+    def jobs(self, place: str) -> tuple[str, ...]:
+        """All jobs in order."""
+        return tuple(f"{folder}/{place}/job" for folder in self.folders)
+
+    def files(self, place: str) -> tuple[str, ...]:
+        """What is read of a place."""
+        return self.ledger(place), self.store(place), *self.jobs(place)
+
+    def published(self) -> dict[str, File]:
+        """All files that were published."""
+        return {
+            f"{folder}/{name}": File(**file)
+            for folder in self.folders
+            for name, file in published_in(folder)["files"].items()
+        }
 
 
 @dataclass(frozen=True)
@@ -62,6 +95,8 @@ class Plan:
     crls: tuple[tuple[str, str], ...]
     """Of each CRL the issuer in hexadecimal, and the file, in DER."""
     logs: tuple[Log, ...]
+    places: Places | None
+    """None where all is one place, `whole`."""
     before: Before | None
     """None in the first epoch of a chain."""
     seen: Mapping[str, tuple[int, int]]
@@ -77,8 +112,9 @@ class Plan:
         fields = json.loads(text)
         fields["crls"] = tuple((issuer, file) for issuer, file in fields["crls"])
         fields["logs"] = tuple(Log(log["log"], log["low"], log["high"], tuple(log["pages"])) for log in fields["logs"])
-        before = fields["before"]
-        fields["before"] = before and Before(before["ledger"], before["store"], tuple(before["jobs"]))
+        places, before = fields["places"], fields["before"]
+        fields["places"] = places and Places(**places)
+        fields["before"] = before and Before(tuple(before["folders"]))
         fields["seen"] = {file: (size, time) for file, (size, time) in fields["seen"].items()}
         return cls(**fields)
 
@@ -88,19 +124,42 @@ class Plan:
         return pages[int(piece) * self.most : (int(piece) + 1) * self.most]
 
     def pieces(self) -> list[str]:
-        """The files of all pieces, in the order in which they are merged."""
+        """The names of all pieces, in the order in which they are merged."""
         return [
             piece_of(log.log, f"{number:04}") for log in self.logs for number in range(-(-len(log.pages) // self.most))
         ]
 
+    def names(self) -> list[str]:
+        """The names of all places in order."""
+        return ["whole"] if self.places is None else [f"{number:04}" for number in range(self.places.count)]
+
+    def heads(self) -> list[str]:
+        """What each place has of HEAD."""
+        return [HEAD] if self.places is None else [f"{place}/head" for place in self.names()]
+
+    def at_places(self, piece: str) -> list[str]:
+        """What each place has of a piece."""
+        return [f"{piece}/{place}.job" for place in self.names()]
+
+    def records(self) -> list[str]:
+        """By their names, the records of all that is made."""
+        places = [f"{place}/{name}" for place in self.names() for name in ("job", "part", "store")]
+        return [HEADS, *self.pieces(), *places]
+
     def folders(self) -> list[str]:
         """The folders of what is made."""
-        return [".", *PLACES, *(f"pieces/{log.log}" for log in self.logs)]
+        return [".", *self.names(), *(f"pieces/{log.log}" for log in self.logs), *self.pieces()]
 
 
 def piece_of(log: str, number: str) -> str:
-    """The file of a piece."""
-    return f"pieces/{log}/{number}.job"
+    """The name of a piece, whose files lie in the folder of this name."""
+    return f"pieces/{log}/{number}"
+
+
+def published_in(folder: str) -> dict[str, Any]:
+    """What was published of an epoch."""
+    found: dict[str, Any] = json.loads((Path(folder) / PUBLISHED).read_text(encoding="utf-8"))
+    return found
 
 
 def read_plan() -> Plan:
@@ -124,8 +183,21 @@ def test(plan: Plan) -> None:
     for what, count, most, remedy in many:
         if count > most:
             raise PlanError(f"{count} {what}, and at most {most} are taken: {remedy}")
+    for folder in plan.before.folders if plan.before else ():
+        _test_places(plan.places, folder)
     if len({log.log for log in plan.logs}) < len(plan.logs):
         raise PlanError("a log stands twice: put its pages into one folder")
+
+
+def _test_places(places: Places | None, folder: str) -> None:
+    """Tests that an epoch before has the same places."""
+    found = published_in(folder).get("places")
+    before = found and Places(**found)
+    if before != places:
+        raise PlanError(
+            f"{folder}: its places are {before or 'whole'}, and here they are {places or 'whole'}: "
+            "write the same [places], or leave [before] out, which begins new chains"
+        )
 
 
 def program_of(word: str, base: Path) -> str:

@@ -133,7 +133,7 @@ def kill(running: "subprocess.Popen[bytes]") -> None:
 
 def times(world: World) -> dict[str, tuple[int, int]]:
     """The number of each file, and when it was written. Snakemake touches records alone."""
-    files = [*world.folder.glob("pieces/*/*.job"), *(world.folder / "whole" / name for name in MADE)]
+    files = [*world.folder.glob("pieces/*/*/*.job"), *(world.folder / "whole" / name for name in MADE)]
     return {str(path): (path.stat().st_ino, path.stat().st_mtime_ns) for path in files}
 
 

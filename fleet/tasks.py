@@ -11,97 +11,152 @@
 import json
 import shutil
 import sys
-from collections.abc import Sequence
+from collections.abc import Iterable, Mapping, Sequence
 from dataclasses import asdict
 from pathlib import Path
 
 from clubcard.engine import Engine, EngineError
 from clubcard.jobs import JobWriter
 
-from .made import Differs, compared, own_name, put_made, put_text, record_of
-from .plan import BARE, HEAD, MADE, PLACES, PUBLISHED, Plan, piece_of, read_plan
+from .made import Differs, Record, compared, made_in, own_name, put_made, put_text, record_of
+from .plan import BARE, HEAD, HEADS, MADE, PUBLISHED, Places, Plan, piece_of, read_plan
+
+RANGE = 49
+"""How many bytes the record of a range has in a job."""
+COUNTED = ("unread", "uncovered", "unenrolled", "late", "accepted")
+"""Of these each entry is one."""
+SUMS = (*COUNTED, "universe", "revoked")
+"""Of these the whole has what all places have together."""
 
 
 def heads(plan: Plan) -> None:
-    """The job with the ranges and the CRLs, and the one with nothing."""
-    own = own_name(Path(HEAD))
-    with open(own, "wb") as file, JobWriter(file) as job:
+    """The job with the ranges and the CRLs, what each place has of it, and the job with nothing."""
+    owns = {name: own_name(Path(name)) for name in (HEAD, BARE)}
+    with open(owns[BARE], "wb") as file, JobWriter(file) as job:
+        job.header(plan.epoch, plan.moment)
+    with open(owns[HEAD], "wb") as file, JobWriter(file) as job:
         job.header(plan.epoch, plan.moment)
         for log in plan.logs:
             job.range(bytes.fromhex(log.log), log.low, log.high)
         for issuer, crl in plan.crls:
             job.crl(bytes.fromhex(issuer), Path(crl).read_bytes())
-    put_made(own, HEAD, {}, {})
-    own = own_name(Path(BARE))
-    with open(own, "wb") as file, JobWriter(file) as job:
-        job.header(plan.epoch, plan.moment)
-    put_made(own, BARE, {}, {})
+    if plan.places is not None:
+        empty = owns[BARE].stat().st_size + RANGE * len(plan.logs)
+        times = plan.places.count if plan.places.by == "identity" else 1
+        owns |= _cut(plan.program, plan.places, owns[HEAD], plan.heads(), empty, times)
+    put_made(HEADS, owns, {}, {})
 
 
-def gather(plan: Plan, log: str, piece: str) -> None:
-    """A piece: the entries of some pages of a log."""
-    of, path = compared([BARE]), piece_of(log, piece)
-    own = own_name(Path(path))
-    said = Engine(plan.program).gather(BARE, bytes.fromhex(log), own, plan.pages(log, piece))
-    put_made(own, path, asdict(said), of)
+def _cut(program: str, places: Places, job: Path, paths: Iterable[str], empty: int, times: int = 1) -> dict[str, Path]:
+    """The own names of what each place has of a job. By their bytes, without the `empty` ones that a job has that has
+    nothing of the places, all of it is there, so many times: a lost entry or CRL would be silent."""
+    owns = {path: own_name(Path(path)) for path in paths}
+    Engine(program).cut(places.by, job, list(owns.values()))
+    wanted, found = times * (_size(job) - empty), sum(_size(own) - empty for own in owns.values())
+    if found != wanted:
+        raise Differs(f"{job}: its places have {found} bytes of it in place of {wanted}")
+    return owns
+
+
+def _size(path: Path) -> int:
+    return path.stat().st_size
+
+
+def gather(plan: Plan, log: str, number: str) -> None:
+    """A piece: the entries of some pages of a log, by places."""
+    piece, files = piece_of(log, number), record_of(HEADS).files
+    of, own = compared([BARE], files), own_name(Path(piece, "job"))
+    said = Engine(plan.program).gather(BARE, bytes.fromhex(log), own, plan.pages(log, number))
+    if plan.places is None:
+        owns = {plan.at_places(piece)[0]: own}
+    else:
+        owns = _cut(plan.program, plan.places, own, plan.at_places(piece), files[BARE].size)
+        own.unlink()
+    put_made(piece, owns, asdict(said), of)
 
 
 def merge(plan: Plan, place: str) -> None:
-    """The job: the head, and the entries of all pieces."""
-    pieces, path = plan.pieces(), f"{place}/job"
-    of, own = compared([HEAD, *pieces]), own_name(Path(path))
+    """The job of a place: what it has of the head, and of the entries of all pieces."""
+    at, path = plan.names().index(place), f"{place}/job"
+    files = made_in(map(record_of, (HEADS, *plan.pieces())))
+    head, pieces = plan.heads()[at], [plan.at_places(piece)[at] for piece in plan.pieces()]
+    of, own = compared([head, *pieces], files), own_name(Path(path))
     if pieces:
-        said = asdict(Engine(plan.program).merge(HEAD, own, pieces))
+        said = asdict(Engine(plan.program).merge(head, own, pieces))
     else:
-        shutil.copyfile(HEAD, own)
+        shutil.copyfile(head, own)
         said = {"pieces": 0, "entries": 0}
-    put_made(own, path, said, of)
+    wanted = files[head].size + sum(files[piece].size - files[BARE].size for piece in pieces)
+    if _size(own) != wanted:
+        raise Differs(f"{path}: it has {_size(own)} bytes, and its pieces have {wanted}")
+    put_made(path, {path: own}, said, of)
 
 
 def part(plan: Plan, place: str, workers: str) -> None:
     """The part of the job, and the ledger behind it."""
     job, path, ledger = (f"{place}/{name}" for name in ("job", "part", "ledger"))
-    of, own, new_ledger = compared([job]), own_name(Path(path)), own_name(Path(ledger))
+    of, owns = compared([job], record_of(job).files), {name: own_name(Path(name)) for name in (path, ledger)}
     engine = Engine(plan.program)
     if plan.before is None:
-        said = engine.snapshot(job, own, new_ledger, int(workers))
+        said = engine.snapshot(job, owns[path], owns[ledger], int(workers))
     else:
-        said = engine.delta(job, plan.before.ledger, own, new_ledger, int(workers))
-    put_made(own, path, asdict(said), of)
-    put_made(new_ledger, ledger, {}, of)
+        old = plan.before.ledger(place)
+        of |= compared([old], plan.before.published())
+        said = engine.delta(job, old, owns[path], owns[ledger], int(workers))
+    put_made(path, owns, asdict(said), of)
 
 
 def audit(plan: Plan, place: str) -> None:
     """The store of a client who installed all parts, once it says the truth of all jobs."""
     job, part_file, path = (f"{place}/{name}" for name in ("job", "part", "store"))
-    of, own, engine = compared([job, part_file]), own_name(Path(path)), Engine(plan.program)
+    of = compared([job, part_file], made_in(map(record_of, (job, part_file))))
+    own, engine, jobs = own_name(Path(path)), Engine(plan.program), [job]
     if plan.before is None:
         engine.start(part_file, own)
     else:
-        engine.install(plan.before.store, part_file, own)
-    said = engine.audit(own, [*(plan.before.jobs if plan.before else ()), job])
-    put_made(own, path, asdict(said), of)
+        store, jobs = plan.before.store(place), [*plan.before.jobs(place), job]
+        of |= compared([store, *jobs[:-1]], plan.before.published())
+        engine.install(store, part_file, own)
+    said = engine.audit(own, jobs)
+    put_made(path, {path: own}, asdict(said), of)
 
 
 def publish(plan: Plan) -> None:
     """Names what is published, once each file is the one of which the others were made, and no entry is lost."""
-    names = [HEAD, *(f"{place}/{name}" for place in PLACES for name in MADE)]
-    digests = compared(names)
-    records = {name: record_of(name) for name in [BARE, *names, *plan.pieces()]}
+    records = {name: record_of(name) for name in plan.records()}
+    files = made_in(records.values()) | (plan.before.published() if plan.before else {})
     for name, record in records.items():
         for other, sha256 in record.of.items():
-            if records[other].sha256 != sha256:
+            if files[other].sha256 != sha256:
                 raise Differs(f"{name}: it was made of another {other}, of SHA-256 {sha256}")
-    gathered = sum(records[piece].said["entries"] for piece in plan.pieces())
-    lines = {}
-    for place in PLACES:
-        said = lines[place] = dict(records[f"{place}/part"].said)
-        counted = sum(said[each] for each in ("unread", "uncovered", "unenrolled", "late", "accepted"))
-        if {gathered, counted} != {records[f"{place}/job"].said["entries"]}:
-            raise Differs(f"{place}/job: {gathered} entries were gathered, and {counted} counted")
-    files = {name: {"sha256": digests[name], "size": records[name].size} for name in names}
-    text = {"epoch": plan.epoch, "moment": plan.moment, "files": files, "said": lines}
+    lines = {place: dict(records[f"{place}/part"].said) for place in plan.names()}
+    sums = {count: sum(line[count] for line in lines.values()) for count in SUMS}
+    _add_up(plan, records, lines, sums)
+    names = [HEAD, *(f"{place}/{name}" for place in plan.names() for name in MADE)]
+    compared(names, files)
+    text = {
+        "epoch": plan.epoch,
+        "moment": plan.moment,
+        "places": plan.places and asdict(plan.places),
+        "files": {name: asdict(files[name]) for name in names},
+        "said": lines,
+        "sums": sums,
+    }
     put_text(json.dumps(text, indent=1, sort_keys=True) + "\n", Path(PUBLISHED))
+
+
+def _add_up(
+    plan: Plan, records: Mapping[str, Record], lines: Mapping[str, Mapping[str, int]], sums: Mapping[str, int]
+) -> None:
+    """Tests that each entry that was gathered is counted at one place."""
+    for place in plan.names():
+        merged, counted = records[f"{place}/job"].said["entries"], sum(lines[place][each] for each in COUNTED)
+        if merged != counted:
+            raise Differs(f"{place}/job: it has {merged} entries, and {counted} are counted")
+    gathered = sum(records[piece].said["entries"] for piece in plan.pieces())
+    counted = sum(sums[each] for each in COUNTED)
+    if gathered != counted:
+        raise Differs(f"{gathered} entries were gathered, and all places have {counted}")
 
 
 TASKS = {task.__name__: task for task in (heads, gather, merge, part, audit, publish)}

@@ -3,6 +3,8 @@
 
     kill-COMMAND   writes half of what is written first, and kills the task and itself
     hold-COMMAND   waits before it writes, until there is a file `go`; `held` then tells the host
+    lose-cut       leaves the largest piece without its records
+    lose-merge     leaves the largest piece out
     slow           waits before each `gather` for the seconds in it; stays
 """
 
@@ -12,10 +14,13 @@ import socket
 import subprocess
 import sys
 import time
+from collections.abc import Sequence
 from pathlib import Path
 
-OUTPUT = {"gather": 4, "merge": 3, "snapshot": 3, "delta": 4, "start": 3}
+OUTPUT = {"gather": 4, "cut": 4, "merge": 3, "snapshot": 3, "delta": 4, "start": 3}
 """Which word names the first file that a command writes."""
+HEADER = 24
+"""How many bytes of a job come before its records."""
 
 
 def met(fault: Path) -> bool:
@@ -25,6 +30,11 @@ def met(fault: Path) -> bool:
     except FileNotFoundError:
         return False
     return True
+
+
+def largest(files: Sequence[str]) -> Path:
+    """The largest of some files."""
+    return max(map(Path, files), key=lambda file: file.stat().st_size)
 
 
 def main() -> None:
@@ -41,7 +51,15 @@ def main() -> None:
         os.truncate(file, file.stat().st_size // 2)
         os.kill(os.getppid(), signal.SIGKILL)
         os.kill(os.getpid(), signal.SIGKILL)
-    os.execv(program, [program, *sys.argv[1:]])
+    if command == "cut" and met(faults / "lose-cut"):
+        subprocess.run([program, *sys.argv[1:]], check=True)
+        piece = largest(sys.argv[4:])
+        piece.write_bytes(piece.read_bytes()[:HEADER] + b"\0")
+        return
+    words = sys.argv[1:]
+    if command == "merge" and met(faults / "lose-merge"):
+        words.remove(str(largest(words[3:])))
+    os.execv(program, [program, *words])
 
 
 if __name__ == "__main__":

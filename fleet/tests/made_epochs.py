@@ -20,7 +20,7 @@ FAULTY = Path(__file__).with_name("faulty.py")
 LOGS = [sha256(b"log %d" % each).digest() for each in range(2)]
 ISSUERS = [sha256(b"issuer %d" % each).digest() for each in range(3)]
 IN_A_PAGE, PAGES = 300, 5
-"""How many entries a page has, and how many pages each log has."""
+"""How many entries a page has at most, and how many pages each log has."""
 
 
 @dataclass(frozen=True)
@@ -62,19 +62,24 @@ def serial(place: int) -> bytes:
     return b"\1" + sha256(b"serial %d" % place).digest()[:15]
 
 
-def entries_of(epoch: int) -> list[Any]:
+def program(*words: str | Path | int) -> str:
+    """The line of the program."""
+    return subprocess.run([PROGRAM, *map(str, words)], stdout=subprocess.PIPE, text=True, check=True).stdout
+
+
+def entries_of(epoch: int, in_a_page: int) -> list[Any]:
     """The entries of an epoch, in the order in which they are merged."""
-    count = IN_A_PAGE * PAGES * len(LOGS)
+    count = in_a_page * PAGES * len(LOGS)
     places = [count * epoch + each for each in range(count)]
     half = len(places) // 2
     logs = [(log, places[at * half : (at + 1) * half]) for at, log in enumerate(sorted(LOGS))]
     return [Entry(ISSUERS[each % 3], serial(each), log, T + each) for log, of_log in logs for each in of_log]
 
 
-def job_of(epoch: int) -> Any:
+def job_of(epoch: int, in_a_page: int) -> Any:
     """The job of an epoch, from 1 on."""
-    entries = entries_of(epoch)
-    count = IN_A_PAGE * PAGES * len(LOGS) * (epoch + 1)
+    entries = entries_of(epoch, in_a_page)
+    count = len(entries) * (epoch + 1)
     ranges = [(log, T, T + count - 1) for log in sorted(LOGS)]
     crls = [
         (issuer, Crl([serial(each) for each in range(at, count, 3) if each % 20 == 0]))
@@ -89,16 +94,15 @@ def page_of(entries: Sequence[Any]) -> str:
     return json.dumps({"entries": [{"leaf_input": leaf, "extra_data": extra} for leaf, extra in spelt]})
 
 
-def make_world(top: Path, epoch: int = 1, before: World | None = None, program: str | Path = FAULTY) -> World:
-    """Writes the files of an epoch into a folder."""
-    job, folder = job_of(epoch), top / f"epoch{epoch}"
+def make_world(
+    top: Path, epoch: int = 1, before: World | None = None, places: str = "", in_a_page: int = IN_A_PAGE
+) -> World:
+    """Writes the files of an epoch into a folder. The places are the lines of EPOCH on them."""
+    job, folder = job_of(epoch, in_a_page), top / f"epoch{epoch}"
     faults = folder / "faults"
     faults.mkdir(parents=True)
-    lines = [f"epoch = {epoch}", f"moment = {T}", f'program = "{program}"', "workers = 2", "pages = 2"]
-    if before is not None:
-        lines.append("[before]")
-        lines += [f'{name} = "{before.folder}/whole/{name}"' for name in ("ledger", "store")]
-        lines.append(f'jobs = ["{before.folder}/whole/job"]')
+    lines = [f"epoch = {epoch}", f"moment = {T}", f'program = "{FAULTY}"', "workers = 2", "pages = 2", places]
+    lines += ["[before]", f'folders = ["{before.folder}"]'] if before is not None else []
     for at, (issuer, crl) in enumerate(job.crls):
         (folder / f"{at}.crl").write_bytes(crl.bytes)
         lines += ["[[crl]]", f'issuer = "{issuer.hex()}"', f'file = "{at}.crl"']
@@ -106,8 +110,8 @@ def make_world(top: Path, epoch: int = 1, before: World | None = None, program: 
         pages = folder / log.hex()[:8]
         pages.mkdir()
         mine = [entry for entry in job.entries if entry.log == log]
-        for at in range(0, len(mine), IN_A_PAGE):
-            (pages / f"{at}.json").write_text(page_of(mine[at : at + IN_A_PAGE]))
+        for at in range(0, len(mine), in_a_page):
+            (pages / f"{at}.json").write_text(page_of(mine[at : at + in_a_page]))
         lines += ["[[log]]", f'log = "{log.hex()}"', f"from = {low}", f"to = {high}", f'pages = "{pages.name}"']
     (folder / "epoch.toml").write_text("\n".join(lines) + "\n")
     return World(folder / "epoch.toml", folder / "made", job, faults)

@@ -11,12 +11,7 @@ from pathlib import Path
 import pytest
 
 from fleet.plan import HEAD, MADE
-from fleet.tests.made_epochs import LOGS, PROGRAM, World, make_world, page_of
-
-
-def program(*words: str | Path | int) -> str:
-    """The line of the program."""
-    return subprocess.run([PROGRAM, *map(str, words)], stdout=subprocess.PIPE, text=True, check=True).stdout
+from fleet.tests.made_epochs import LOGS, World, make_world, page_of, program
 
 
 def gathered(world: World, folder: Path) -> Path:
@@ -65,7 +60,7 @@ def wait_for(path: Path) -> None:
 
 
 def test_it_makes_what_one_machine_makes(first: World, tmp_path: Path) -> None:
-    assert len(list(first.folder.glob("pieces/*/*.job"))) == 6
+    assert len(list(first.folder.glob("pieces/*/*/whole.job"))) == 6
     job, part, ledger, store = (tmp_path / name for name in MADE)
     program("snapshot", gathered(first, tmp_path), part, ledger, 1)
     program("start", part, store)
@@ -105,13 +100,17 @@ def test_killed_tasks_are_run_again(first: World, tmp_path: Path) -> None:
 
 def test_a_killed_workflow_goes_on(first: World, tmp_path: Path) -> None:
     world = make_world(tmp_path)
-    world.order("slow", "2")
+    world.order("hold-gather")
     running = subprocess.Popen(world.words(), env=world.environment, stderr=subprocess.DEVNULL)
-    wait_for(world.folder / "pieces" / min(LOGS).hex() / "0000.job.made")
+    wait_for(world.faults / "held")
+    while not list(world.folder.glob("pieces/*/*.made")):
+        time.sleep(0.02)
     assert world.run().returncode == 4
     os.kill(running.pid, signal.SIGKILL)
     running.wait()
-    made = {path: time for path, time in times(world).items() if path.endswith(".made")}
+    made = list(world.folder.glob("pieces/*/*.made"))
+    # The task lives on.
+    world.order("go")
     done = world.run()
     assert done.returncode == 0, done.stderr
     assert 1 <= len(made) < 6
@@ -167,7 +166,7 @@ def test_a_late_writer_of_other_bytes_fails(tmp_path: Path) -> None:
 def test_a_changed_piece_is_not_merged(tmp_path: Path) -> None:
     world = make_world(tmp_path)
     assert world.run("--until", "gather").returncode == 0
-    piece = world.folder / "pieces" / min(LOGS).hex() / "0001.job"
+    piece = world.folder / "pieces" / min(LOGS).hex() / "0001" / "whole.job"
     octets, time_ns = piece.read_bytes(), piece.stat().st_mtime_ns
     piece.write_bytes(octets[:-2] + b"\1" + octets[-1:])
     os.utime(piece, ns=(time_ns, time_ns))
