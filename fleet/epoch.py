@@ -5,7 +5,7 @@ from pathlib import Path
 
 from clubcard.tables import Table, read_config
 
-from .plan import MOST_NAMES, PUBLISHED, Before, Log, Places, Plan, pages_in, program_of, test
+from .plan import MOST_NAMES, PUBLISHED, Before, Log, Places, Plan, number_name, pages_in, program_of, test
 
 _KEYS = "epoch moment program workers pages places before crl log".split()
 _MOST = (1 << 64) - 1
@@ -68,12 +68,17 @@ def _log(table: Table, base: Path) -> Log:
 
 def _places(top: Table) -> Places:
     table = Table(f"{top.place}: [places]", top.value("places", dict, "[places], a table"))
-    table.only(("by", "count"))
+    table.only(("by", "count", "again"))
     by = table.text("by", '"issuer"')
     if by not in ("issuer", "identity"):
         raise table.wrong("by", f'{by!r} is neither "issuer" nor "identity": write by = "issuer"')
     table.value("count", int, "16")
-    return Places(by, table.number("count", 16, 1, MOST_NAMES))
+    count = table.number("count", 16, 1, MOST_NAMES)
+    again = Table(f"{table.place}: again", table.value("again", dict, "{ 0003 = 8 }", {}))
+    if again.values and by != "issuer":
+        raise table.wrong("again", "identities aren't cut by identity again: give `count` more")
+    again.only([number_name(number) for number in range(count)])
+    return Places(by, count, {name: again.number(name, 8, 2, MOST_NAMES) for name in sorted(again.values)})
 
 
 def _before(top: Table, base: Path) -> Before:

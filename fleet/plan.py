@@ -19,6 +19,8 @@ HEAD = "head.job"
 BARE = "piece.job"
 """A job of the epoch with nothing in it, behind which the entries of a piece stand."""
 PUBLISHED = "published.json"
+WHOLE = "whole"
+"""The one place where a history isn't cut."""
 MADE = ("job", "part", "ledger", "store")
 """What is made of each place."""
 MOST_NAMES = 1024
@@ -45,9 +47,22 @@ class Places:
 
     by: str
     count: int
+    again: Mapping[str, int]
+    """Of each place that is cut again, by identity, into how many."""
 
     def __str__(self) -> str:
-        return f"{self.count} by {self.by}"
+        again = "".join(f", {name} again into {count}" for name, count in self.again.items())
+        return f"{self.count} by {self.by}{again}"
+
+    def groups(self) -> list[list[str]]:
+        """The names of what each place is cut into, or its own."""
+        places = [number_name(number) for number in range(self.count)]
+        return [
+            [f"{place}.{number_name(number)}" for number in range(self.again[place])]
+            if place in self.again
+            else [place]
+            for place in places
+        ]
 
 
 @dataclass(frozen=True)
@@ -126,20 +141,14 @@ class Plan:
     def pieces(self) -> list[str]:
         """The names of all pieces, in the order in which they are merged."""
         return [
-            piece_of(log.log, f"{number:04}") for log in self.logs for number in range(-(-len(log.pages) // self.most))
+            piece_of(log.log, number_name(number))
+            for log in self.logs
+            for number in range(-(-len(log.pages) // self.most))
         ]
 
     def names(self) -> list[str]:
         """The names of all places in order."""
-        return ["whole"] if self.places is None else [f"{number:04}" for number in range(self.places.count)]
-
-    def heads(self) -> list[str]:
-        """What each place has of HEAD."""
-        return [HEAD] if self.places is None else [f"{place}/head" for place in self.names()]
-
-    def at_places(self, piece: str) -> list[str]:
-        """What each place has of a piece."""
-        return [f"{piece}/{place}.job" for place in self.names()]
+        return [WHOLE] if self.places is None else [name for names in self.places.groups() for name in names]
 
     def records(self) -> list[str]:
         """By their names, the records of all that is made."""
@@ -151,9 +160,24 @@ class Plan:
         return [".", *self.names(), *(f"pieces/{log.log}" for log in self.logs), *self.pieces()]
 
 
+def number_name(number: int) -> str:
+    """The name of a place or a piece by its number."""
+    return f"{number:04}"
+
+
 def piece_of(log: str, number: str) -> str:
-    """The name of a piece, whose files lie in the folder of this name."""
+    """The name of a piece."""
     return f"pieces/{log}/{number}"
+
+
+def at_place(piece: str, place: str) -> str:
+    """What a place has of a piece."""
+    return f"{piece}/{place}.job"
+
+
+def head_of(place: str) -> str:
+    """What a place has of HEAD."""
+    return HEAD if place == WHOLE else f"{place}/head"
 
 
 def published_in(folder: str) -> dict[str, Any]:
@@ -195,7 +219,7 @@ def _test_places(places: Places | None, folder: str) -> None:
     before = found and Places(**found)
     if before != places:
         raise PlanError(
-            f"{folder}: its places are {before or 'whole'}, and here they are {places or 'whole'}: "
+            f"{folder}: its places are {before or WHOLE}, and here they are {places or WHOLE}: "
             "write the same [places], or leave [before] out, which begins new chains"
         )
 

@@ -21,23 +21,11 @@ HERE = Path(__file__).resolve().parent
 sys.path[:0] = [str(HERE.parent), str(HERE.parent / "tools"), str(HERE.parent / "python")]
 
 from fleet.plan import MADE  # noqa: E402
-from fleet.tests.made_epochs import World, make_world  # noqa: E402
-
-MOST = 120
-"""For how many seconds something is waited for."""
+from fleet.tests.made_epochs import MOST, World, make_world, wait_until  # noqa: E402
 
 
 def cluster(*words: str) -> None:
     subprocess.run([HERE / "tests" / "cluster.sh", *words], check=True)
-
-
-def wait_until(what: str, holds: Callable[[], bool]) -> None:
-    """Waits until something holds."""
-    for _ in range(MOST * 10):
-        if holds():
-            return
-        time.sleep(0.1)
-    raise AssertionError(f"{what}: not within {MOST} s")
 
 
 def begin(world: World) -> "subprocess.Popen[bytes]":

@@ -11,15 +11,16 @@
 import json
 import shutil
 import sys
-from collections.abc import Iterable, Mapping, Sequence
+from collections.abc import Callable, Mapping, Sequence
 from dataclasses import asdict
+from functools import partial
 from pathlib import Path
 
 from clubcard.engine import Engine, EngineError
 from clubcard.jobs import JobWriter
 
 from .made import Differs, Record, compared, made_in, own_name, put_made, put_text, record_of
-from .plan import BARE, HEAD, HEADS, MADE, PUBLISHED, Places, Plan, piece_of, read_plan
+from .plan import BARE, HEAD, HEADS, MADE, PUBLISHED, WHOLE, Places, Plan, at_place, head_of, piece_of, read_plan
 
 RANGE = 49
 """How many bytes the record of a range has in a job."""
@@ -41,17 +42,32 @@ def heads(plan: Plan) -> None:
         for issuer, crl in plan.crls:
             job.crl(bytes.fromhex(issuer), Path(crl).read_bytes())
     if plan.places is not None:
-        empty = owns[BARE].stat().st_size + RANGE * len(plan.logs)
-        times = plan.places.count if plan.places.by == "identity" else 1
-        owns |= _cut(plan.program, plan.places, owns[HEAD], plan.heads(), empty, times)
+        empty = _size(owns[BARE]) + RANGE * len(plan.logs)
+        owns |= _divided(plan.program, plan.places, owns[HEAD], head_of, empty, True)
     put_made(HEADS, owns, {}, {})
 
 
-def _cut(program: str, places: Places, job: Path, paths: Iterable[str], empty: int, times: int = 1) -> dict[str, Path]:
-    """The own names of what each place has of a job. By their bytes, without the `empty` ones that a job has that has
-    nothing of the places, all of it is there, so many times: a lost entry or CRL would be silent."""
+def _divided(
+    program: str, places: Places, job: Path, path: Callable[[str], str], empty: int, has_crls: bool
+) -> dict[str, Path]:
+    """The own names of what each place has of a job with CRLs or entries alone, by the paths of places. Without these
+    it has `empty` bytes."""
+    groups = [list(map(path, names)) for names in places.groups()]
+    owns = _cut(program, places.by, job, [paths[0] for paths in groups], empty, has_crls)
+    for paths in groups:
+        if len(paths) > 1:
+            large = owns.pop(paths[0])
+            owns |= _cut(program, "identity", large, paths, empty, has_crls)
+            large.unlink()
+    return owns
+
+
+def _cut(program: str, by: str, job: Path, paths: Sequence[str], empty: int, has_crls: bool) -> dict[str, Path]:
+    """The own names of what each place has of a job. Tests by their bytes that nothing is lost, which would be silent:
+    by issuer each CRL has one place, by identity it has all, and an entry has one."""
     owns = {path: own_name(Path(path)) for path in paths}
-    Engine(program).cut(places.by, job, list(owns.values()))
+    Engine(program).cut(by, job, list(owns.values()))
+    times = len(owns) if has_crls and by == "identity" else 1
     wanted, found = times * (_size(job) - empty), sum(_size(own) - empty for own in owns.values())
     if found != wanted:
         raise Differs(f"{job}: its places have {found} bytes of it in place of {wanted}")
@@ -68,18 +84,17 @@ def gather(plan: Plan, log: str, number: str) -> None:
     of, own = compared([BARE], files), own_name(Path(piece, "job"))
     said = Engine(plan.program).gather(BARE, bytes.fromhex(log), own, plan.pages(log, number))
     if plan.places is None:
-        owns = {plan.at_places(piece)[0]: own}
+        owns = {at_place(piece, WHOLE): own}
     else:
-        owns = _cut(plan.program, plan.places, own, plan.at_places(piece), files[BARE].size)
+        owns = _divided(plan.program, plan.places, own, partial(at_place, piece), files[BARE].size, False)
         own.unlink()
     put_made(piece, owns, asdict(said), of)
 
 
 def merge(plan: Plan, place: str) -> None:
     """The job of a place: what it has of the head, and of the entries of all pieces."""
-    at, path = plan.names().index(place), f"{place}/job"
+    path, head, pieces = f"{place}/job", head_of(place), [at_place(piece, place) for piece in plan.pieces()]
     files = made_in(map(record_of, (HEADS, *plan.pieces())))
-    head, pieces = plan.heads()[at], [plan.at_places(piece)[at] for piece in plan.pieces()]
     of, own = compared([head, *pieces], files), own_name(Path(path))
     if pieces:
         said = asdict(Engine(plan.program).merge(head, own, pieces))

@@ -5,7 +5,8 @@ import json
 import os
 import subprocess
 import sys
-from collections.abc import Sequence
+import time
+from collections.abc import Callable, Sequence
 from dataclasses import dataclass
 from hashlib import sha256
 from pathlib import Path
@@ -21,6 +22,8 @@ LOGS = [sha256(b"log %d" % each).digest() for each in range(2)]
 ISSUERS = [sha256(b"issuer %d" % each).digest() for each in range(3)]
 IN_A_PAGE, PAGES = 300, 5
 """How many entries a page has at most, and how many pages each log has."""
+MOST = 120
+"""For how many seconds something is waited for."""
 
 
 @dataclass(frozen=True)
@@ -56,6 +59,15 @@ class World:
     def order(self, fault: str, text: str = "") -> None:
         """Orders a fault."""
         (self.faults / fault).write_text(text)
+
+
+def wait_until(what: str, holds: Callable[[], object]) -> None:
+    """Waits until something holds."""
+    for _ in range(MOST * 20):
+        if holds():
+            return
+        time.sleep(0.05)
+    raise AssertionError(f"{what}: not within {MOST} s")
 
 
 def serial(place: int) -> bytes:

@@ -4,14 +4,13 @@ import json
 import os
 import signal
 import subprocess
-import time
 from collections.abc import Iterable
 from pathlib import Path
 
 import pytest
 
 from fleet.plan import HEAD, MADE
-from fleet.tests.made_epochs import LOGS, World, make_world, page_of, program
+from fleet.tests.made_epochs import LOGS, World, make_world, page_of, program, wait_until
 
 
 def gathered(world: World, folder: Path) -> Path:
@@ -48,15 +47,6 @@ def first_epoch(tmp_path_factory: pytest.TempPathFactory) -> World:
     done = world.run()
     assert done.returncode == 0, done.stderr
     return world
-
-
-def wait_for(path: Path) -> None:
-    """Waits until a file is there."""
-    for _ in range(1000):
-        if path.exists():
-            return
-        time.sleep(0.02)
-    raise AssertionError(f"{path} didn't come")
 
 
 def test_it_makes_what_one_machine_makes(first: World, tmp_path: Path) -> None:
@@ -102,9 +92,8 @@ def test_a_killed_workflow_goes_on(first: World, tmp_path: Path) -> None:
     world = make_world(tmp_path)
     world.order("hold-gather")
     running = subprocess.Popen(world.words(), env=world.environment, stderr=subprocess.DEVNULL)
-    wait_for(world.faults / "held")
-    while not list(world.folder.glob("pieces/*/*.made")):
-        time.sleep(0.02)
+    wait_until("a task waits", (world.faults / "held").exists)
+    wait_until("a piece is made", lambda: list(world.folder.glob("pieces/*/*.made")))
     assert world.run().returncode == 4
     os.kill(running.pid, signal.SIGKILL)
     running.wait()
@@ -123,7 +112,7 @@ def test_a_late_writer_changes_nothing(first: World, tmp_path: Path) -> None:
     assert world.run("--until", "heads").returncode == 0
     world.order("hold-gather")
     late = world.task("gather", min(LOGS).hex(), "0002")
-    wait_for(world.faults / "held")
+    wait_until("the task waits", (world.faults / "held").exists)
     done = world.run()
     assert done.returncode == 0, done.stderr
     before = times(world)

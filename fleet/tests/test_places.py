@@ -5,8 +5,6 @@ import os
 import shutil
 import signal
 import subprocess
-import time
-from collections.abc import Callable
 from concurrent.futures import ThreadPoolExecutor
 from dataclasses import dataclass, replace
 from pathlib import Path
@@ -17,19 +15,18 @@ from reference import History, Job, issuer_place, place
 
 from clubcard.tables import ConfigError
 from fleet.epoch import load
-from fleet.tests.made_epochs import LOGS, World, make_world, program
+from fleet.plan import HEAD, MADE
+from fleet.tests.made_epochs import ISSUERS, LOGS, World, make_world, program, wait_until
 
-COUNT, IN_A_PAGE = 4, 100
-PLACES = [f"{number:04}" for number in range(COUNT)]
-PLACE_OF: dict[str, Callable[[Any], int]] = {
-    "issuer": lambda identity: issuer_place(identity[0], COUNT),
-    "identity": lambda identity: place(identity, COUNT),
-}
+COUNT, AGAIN, IN_A_PAGE = 4, 3, 100
+LARGE = f"{issuer_place(ISSUERS[0], COUNT):04}"
+"""By issuers, the place that is cut again, by identity."""
 
 
 def lines_of(by: str, count: int = COUNT) -> str:
     """The lines of EPOCH on places."""
-    return f'[places]\nby = "{by}"\ncount = {count}'
+    again = f"again = {{ {LARGE} = {AGAIN} }}" if by == "issuer" else ""
+    return f'[places]\nby = "{by}"\ncount = {count}\n{again}'
 
 
 @dataclass(frozen=True)
@@ -41,10 +38,25 @@ class Chain:
     second: World
 
     def place_of(self, identity: Any) -> str:
-        return PLACES[PLACE_OF[self.by](identity)]
+        """The place of an identity."""
+        if self.by == "identity":
+            return f"{place(identity, COUNT):04}"
+        found = f"{issuer_place(identity[0], COUNT):04}"
+        return f"{found}.{place(identity, AGAIN):04}" if found == LARGE else found
+
+    @property
+    def places(self) -> set[str]:
+        """All places."""
+        numbers = {f"{number:04}" for number in range(COUNT)}
+        again = {f"{LARGE}.{number:04}" for number in range(AGAIN)}
+        return numbers if self.by == "identity" else numbers - {LARGE} | again
+
+    def has_crls_of(self, name: str, issuer: bytes) -> bool:
+        """Whether a place has the CRLs of an issuer."""
+        return self.by == "identity" or name[:4] == f"{issuer_place(issuer, COUNT):04}"
 
 
-@pytest.fixture(name="chain", scope="module", params=sorted(PLACE_OF))
+@pytest.fixture(name="chain", scope="module", params=["issuer", "identity"])
 def two_epochs(request: pytest.FixtureRequest, tmp_path_factory: pytest.TempPathFactory) -> Chain:
     """The first epoch has tasks that were killed, and the workflow of the second one was."""
     top, by = tmp_path_factory.mktemp("places"), request.param
@@ -59,29 +71,37 @@ def two_epochs(request: pytest.FixtureRequest, tmp_path_factory: pytest.TempPath
     running = subprocess.Popen(
         second.words(), env=second.environment, stderr=subprocess.DEVNULL, start_new_session=True
     )
-    while not (second.faults / "held").exists() or not list(second.folder.glob("0*/job.made")):
-        assert running.poll() is None
-        time.sleep(0.02)
+    wait_until("a task waits", (second.faults / "held").exists)
+    wait_until("a job is made", lambda: merged(second))
     os.killpg(running.pid, signal.SIGKILL)
     running.wait()
-    assert len(list(second.folder.glob("0*/job.made"))) < COUNT
+    before = merged(second)
     done = second.run()
     assert done.returncode == 0, done.stderr
+    assert len(before) < len(merged(second))
     return Chain(by, first, second)
 
 
+def merged(world: World) -> list[Path]:
+    """The records of all jobs of places."""
+    return list(world.folder.glob("0*/job.made"))
+
+
 def test_each_place_has_what_the_whole_has_there(chain: Chain) -> None:
-    for world in (chain.first, chain.second):
+    history = History([chain.first.job, chain.second.job])
+    for number, world in enumerate((chain.first, chain.second)):
         whole, made = world.job, json.loads((world.folder / "published.json").read_text())
-        for name in PLACES:
-            crls = [crl for crl in whole.crls if chain.by == "identity" or chain.place_of((crl[0],)) == name]
+        for name in chain.places:
+            crls = [(issuer, crl) for issuer, crl in whole.crls if chain.has_crls_of(name, issuer)]
             entries = [entry for entry in whole.entries if chain.place_of(entry.id) == name]
             job = Job(whole.epoch, whole.moment, whole.ranges, crls, entries)
             assert (world.folder / name / "job").read_bytes() == job.bytes()
             assert made["said"][name]["accepted"] == len(entries)
-        assert made["places"] == {"by": chain.by, "count": COUNT}
-        assert made["sums"]["accepted"] == len(whole.entries)
-        assert len(made["files"]) == 4 * COUNT + 1
+        again = {LARGE: AGAIN} if chain.by == "issuer" else {}
+        assert made["places"] == {"by": chain.by, "count": COUNT, "again": again}
+        sets = {"universe": len(history.universe(number)), "revoked": len(history.revoked(number))}
+        assert made["sums"] == history.counts[number] | sets
+        assert set(made["files"]) == {HEAD, *(f"{name}/{file}" for name in chain.places for file in MADE)}
 
 
 def test_each_answer_is_the_truth_of_the_whole(chain: Chain) -> None:
@@ -98,9 +118,11 @@ def test_each_answer_is_the_truth_of_the_whole(chain: Chain) -> None:
         answers = list(threads.map(asked, entries))
     assert answers == ["revoked" if history.listed(entry.id, 1) else "good" for entry in entries]
     assert (len(answers), answers.count("revoked")) == (2000, 100)
-    for issuer, _, serial in (entry.id for entry in entries[::100]):
-        said = program("place", chain.by, issuer.hex(), serial.hex(), COUNT)
-        assert said == f"place {PLACE_OF[chain.by]((issuer, len(serial), serial))} of {COUNT}\n"
+    for identity in (entry.id for entry in entries[::100]):
+        words = [identity[0].hex(), identity[2].hex()]
+        number, again = program("place", chain.by, *words, COUNT), program("place", "identity", *words, AGAIN)
+        found = [f"{int(line.split()[1]):04}" for line in (number, again)]
+        assert chain.place_of(identity) in (found[0], ".".join(found))
 
 
 def refused(world: World, *words: str) -> str:
@@ -139,7 +161,17 @@ def test_a_chain_keeps_its_places(chain: Chain, tmp_path: Path) -> None:
         assert done.returncode == 2 and "write the same [places]" in done.stderr
 
 
-@pytest.mark.parametrize("lines", [lines_of("log"), lines_of("issuer", 0), lines_of("issuer", 1025), "[places]"])
-def test_places_are_refused(lines: str, tmp_path: Path) -> None:
-    with pytest.raises(ConfigError, match="places"):
+@pytest.mark.parametrize(
+    ("lines", "why"),
+    [
+        ("[places]", 'key "by" is missing'),
+        (lines_of("log"), "is neither"),
+        (lines_of("identity", 0), "isn't within"),
+        (lines_of("identity", 1025), "isn't within"),
+        (f'{lines_of("identity")}again = {{ 0000 = 2 }}', "give `count` more"),
+        ('[places]\nby = "issuer"\ncount = 4\nagain = { 0004 = 2 }', 'no key "0004"'),
+    ],
+)
+def test_places_are_refused(lines: str, why: str, tmp_path: Path) -> None:
+    with pytest.raises(ConfigError, match=why):
         load(make_world(tmp_path, places=lines, in_a_page=1).epoch)
