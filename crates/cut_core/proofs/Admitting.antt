@@ -19,7 +19,8 @@ use Rattle.universe_core.specs.Formats.{JobIn, facts_in}
 use Rattle.universe_core.specs.History.{Release, past_of, accepted_with}
 use Rattle.publication_core.specs.Building.{HaveBlocks}
 use Rattle.publication_core.specs.Histories.{newest_of, groups_of, GoesOn, IsAdmissible}
-use Rattle.piece_core.specs.Cuts.{Cut, is_kept, keeps_entry}
+use Rattle.place_core.specs.Cuts.{Cut, is_kept}
+use Rattle.piece_core.specs.Cuts.{keeps_entry}
 use Rattle.cut_core.specs.Cutting.{cut_job, cut_in, IsCut}
 use Rattle.cut_core.specs.Courses.{Course, left, cut_course}
 use Rattle.cut_core.proofs.Steps.{accepted_cut}

@@ -7,7 +7,8 @@ use Rattle.ident_core.specs.declared.identity.Identity.{Identity}
 use Rattle.job_core.specs.JobFields.{CrlMeaning, JobFields}
 use Rattle.universe_core.specs.Jobs.{Entry}
 use Rattle.universe_core.specs.History.{Release}
-use Rattle.piece_core.specs.Cuts.{Cut, is_kept, keeps_entry, both}
+use Rattle.place_core.specs.Cuts.{Cut, is_kept, both}
+use Rattle.piece_core.specs.Cuts.{keeps_entry}
 use Rattle.cut_core.specs.Cutting.{cut_job, IsCut}
 use Rattle.cut_core.proofs.Filters.{filter_both}
 

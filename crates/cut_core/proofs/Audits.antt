@@ -13,7 +13,7 @@ use Rattle.universe_core.specs.History.{releases, seen, sightings}
 use Rattle.history_core.specs.Truth.{truth}
 use Rattle.audit_core.specs.Auditing.{AllAgree, releases_of}
 use Rattle.audit_core.proofs.Findings.{answers_truly}
-use Rattle.piece_core.specs.Cuts.{Cut, is_kept}
+use Rattle.place_core.specs.Cuts.{Cut, is_kept}
 use Rattle.cut_core.specs.Cutting.{cut_job, cut_facts, IsCut}
 use Rattle.cut_core.proofs.Releases.{releases_beside, sightings_beside, truth_beside}
 use Rattle.cut_core.proofs.Courses.{said_cut}

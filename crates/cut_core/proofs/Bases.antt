@@ -2,7 +2,7 @@
 use Rattle.std.specs.List.{filter, flat_map, AllZip}
 use Rattle.std.specs.List.Sorted.{IsStrictlySortedBy}
 use Rattle.std.specs.Prelude.{ℤ}
-use Rattle.std.proofs.Common.{◌≡◌, ℕ, ⊎_elim, List, [], ◌∷◌, ◌++◌, Bool, true, not, ◌&&◌, Option, refl, sym, ap, ◌∙◌, subst}
+use Rattle.std.proofs.Common.{◌≡◌, ℕ, ⊎_elim, List, [], ◌∷◌, ◌++◌, true, not, Option, refl, sym, ap, ◌∙◌, subst}
 use Rattle.std.proofs.lemmas.List.Elements.{filter-append}
 use Rattle.std.proofs.lemmas.List.Kept.{IsStrictlySortedBy-filter}
 use Rattle.ident_core.specs.declared.identity.Identity.{Identity}
@@ -13,12 +13,11 @@ use Rattle.ident_core.specs.Sets.{key_set}
 use Rattle.ident_core.proofs.Elements.{Among-map}
 use Rattle.universe_core.specs.Jobs.{Entry, is_stale}
 use Rattle.universe_core.specs.History.{Release, accepted_by, seen, is_listed}
-use Rattle.universe_core.specs.Rebases.{is_other}
 use Rattle.history_core.specs.Bases.{newest_ranges, newest_epoch, kept_by, base_with}
-use Rattle.history_core.specs.Bases.{release_without, releases_without, is_lasting_by, base_at}
-use Rattle.piece_core.specs.Cuts.{Cut, is_kept}
-use Rattle.cut_core.specs.Cutting.{IsCut, split_base}
-use Rattle.cut_core.proofs.Filters.{filter_both, filter_kept, key_set_kept}
+use Rattle.history_core.specs.Bases.{release_cut, releases_cut, is_lasting_by, base_at}
+use Rattle.place_core.specs.Cuts.{Cut, is_kept}
+use Rattle.cut_core.specs.Cutting.{IsCut}
+use Rattle.cut_core.proofs.Filters.{filter_kept, key_set_kept}
 use Rattle.cut_core.proofs.Releases.{accepted_beside, seen_beside, listed_beside, until_beside, Ascend, known_ascend}
 
 module _ (cut : Cut) where
@@ -69,7 +68,7 @@ module _ (cut : Cut) where
         ∙ filter_kept (is_kept cut) (is_listed rs) (is_listed qs) (λ x k. listed_beside cut x k rs qs z)
         (kept_by (is_lasting_by moment rs) rs)
 
-    base_cut : (trailer other : List ℕ) → IsCut cut (base_at moment rs trailer) (base_at moment qs other)
+    pub base_cut : (trailer other : List ℕ) → IsCut cut (base_at moment rs trailer) (base_at moment qs other)
     unfolding base_with
     base_cut trailer other = record {
       epoch = epoch_after 0 0 rs qs refl z;
@@ -81,48 +80,67 @@ module _ (cut : Cut) where
       revoked = listed_base;
     }
 
-  -- ---- without some issuers
+  -- ---- of what is kept by another cut
 
-  module _ (without : List (List ℕ)) where
-    abbrev other : Identity → Bool
-    other x = is_other without x.issuer
+  module _ (kept : Cut) where
+    less_kept : (xs : List Identity) → filter (is_kept kept) (filter (is_kept cut) xs) ≡ filter (is_kept cut) (filter (is_kept kept) xs)
+    less_kept xs = filter_kept (is_kept cut) (is_kept kept) (is_kept kept) (λ x k. refl) xs
 
-    less_kept : (xs : List Identity) → filter other (filter (is_kept cut) xs) ≡ filter (is_kept cut) (filter other xs)
-    less_kept xs = filter_kept (is_kept cut) other other (λ x k. refl) xs
-
-    less_cut : (r q : Release) → IsCut cut r q → IsCut cut (release_without without r) (release_without without q)
+    less_cut : (r q : Release) → IsCut cut r q → IsCut cut (release_cut kept r) (release_cut kept q)
     less_cut r q c = record {
       epoch = c.epoch;
       ranges = c.ranges;
       issuers =
-          ap (filter (is_other without)) c.issuers ∙ filter_kept cut.takes (is_other without) (is_other without) (λ k t. refl) r.issuers;
-      shown = ap (filter (λ (e : Entry). is_other without e.id.issuer)) c.shown
-          ∙ filter_kept (λ (e : Entry). is_kept cut e.id) (λ (e : Entry). is_other without e.id.issuer)
-          (λ (e : Entry). is_other without e.id.issuer) (λ e k. refl) r.shown;
-      accepted = ap (filter other) c.accepted ∙ less_kept r.accepted;
+          ap (filter kept.takes) c.issuers ∙ filter_kept cut.takes kept.takes kept.takes (λ k t. refl) r.issuers;
+      shown = ap (filter (λ (e : Entry). is_kept kept e.id)) c.shown
+          ∙ filter_kept (λ (e : Entry). is_kept cut e.id) (λ (e : Entry). is_kept kept e.id)
+          (λ (e : Entry). is_kept kept e.id) (λ e k. refl) r.shown;
+      accepted = ap (filter (is_kept kept)) c.accepted ∙ less_kept r.accepted;
       lists = c.lists;
-      revoked = ap (filter other) c.revoked ∙ less_kept r.revoked;
+      revoked = ap (filter (is_kept kept)) c.revoked ∙ less_kept r.revoked;
     }
 
-    without_beside : (rs qs : List Release) → AllZip (IsCut cut) rs qs
-        → AllZip (IsCut cut) (releases_without without rs) (releases_without without qs)
-    unfolding releases_without
-    without_beside [] [] z = z
-    without_beside [] (q ∷ qs) z = absurd z
-    without_beside (r ∷ rs) [] z = absurd z
-    without_beside (r ∷ rs) (q ∷ qs) z = (less_cut r q z.0, without_beside rs qs z.1)
+    less_beside : (rs qs : List Release) → AllZip (IsCut cut) rs qs
+        → AllZip (IsCut cut) (releases_cut kept rs) (releases_cut kept qs)
+    unfolding releases_cut
+    less_beside [] [] z = z
+    less_beside [] (q ∷ qs) z = absurd z
+    less_beside (r ∷ rs) [] z = absurd z
+    less_beside (r ∷ rs) (q ∷ qs) z = (less_cut r q z.0, less_beside rs qs z.1)
 
     pub base_beside : (moment : ℕ) (rs qs : List Release) (trailer other : List ℕ) → AllZip (IsCut cut) rs qs
-        → IsCut cut (base_at moment (releases_without without rs) trailer) (base_at moment (releases_without without qs) other)
+        → IsCut cut (base_at moment (releases_cut kept rs) trailer) (base_at moment (releases_cut kept qs) other)
     base_beside moment rs qs trailer other z =
-        base_cut moment (releases_without without rs) (releases_without without qs) (without_beside rs qs z) trailer other
+        base_cut moment (releases_cut kept rs) (releases_cut kept qs) (less_beside rs qs z) trailer other
 
-less_ascend : (without : List (List ℕ)) (rs : List Release) → Ascend rs → Ascend (releases_without without rs)
-unfolding releases_without
-less_ascend without rs up r a =
-    let m : (q : Release) × Among rs q × (release_without without q ≡ r) = Among-map (release_without without) rs r a in
+-- what is kept of releases is they, cut
+pub release_is_cut : (cut : Cut) (r : Release) → IsCut cut r (release_cut cut r)
+release_is_cut cut r = record {
+  epoch = refl;
+  ranges = refl;
+  issuers = refl;
+  lists = λ x k. refl;
+  shown = refl;
+  accepted = refl;
+  revoked = refl;
+}
+
+kept_beside : (cut : Cut) (rs : List Release) → AllZip (IsCut cut) rs (releases_cut cut rs)
+unfolding releases_cut
+kept_beside cut [] = tt
+kept_beside cut (r ∷ rs) = (release_is_cut cut r, kept_beside cut rs)
+
+-- so is the base of what is kept that of all, cut
+pub kept_base : (cut : Cut) (moment : ℕ) (rs : List Release) (trailer other : List ℕ)
+    → IsCut cut (base_at moment rs trailer) (base_at moment (releases_cut cut rs) other)
+kept_base cut moment rs = base_cut cut moment rs (releases_cut cut rs) (kept_beside cut rs)
+
+less_ascend : (kept : Cut) (rs : List Release) → Ascend rs → Ascend (releases_cut kept rs)
+unfolding releases_cut
+less_ascend kept rs up r a =
+    let m : (q : Release) × Among rs q × (release_cut kept q ≡ r) = Among-map (release_cut kept) rs r a in
     subst (λ (s : Release). IsStrictlySortedBy identity_cmp s.accepted) m.2
-    (IsStrictlySortedBy-filter identity_cmp (λ x. is_other without x.issuer) m.0.accepted (up m.0 m.1))
+    (IsStrictlySortedBy-filter identity_cmp (is_kept kept) m.0.accepted (up m.0 m.1))
 
 base_ascends_by : (moment : ℕ) (rs : List Release) (trailer : List ℕ) → Ascend rs → Ascend (base_at moment rs trailer ∷ [])
 unfolding base_with
@@ -131,28 +149,6 @@ base_ascends_by moment rs trailer up r a =
     (IsStrictlySortedBy-filter identity_cmp (is_lasting_by moment rs) (accepted_by [] rs) (known_ascend rs up)))
     (λ n. absurd n) a
 
-pub base_ascends : (moment : ℕ) (without : List (List ℕ)) (rs : List Release) (trailer : List ℕ) → Ascend rs
-    → Ascend (base_at moment (releases_without without rs) trailer ∷ [])
-base_ascends moment without rs trailer up = base_ascends_by moment (releases_without without rs) trailer (less_ascend without rs up)
-
--- ---- a chain that isn't cut, begun anew in places
-
-module _ (cut : Cut) (lasts : Identity → Bool) (rs : List Release) where
-  listed_both : filter (is_listed rs) (kept_by (λ x. lasts x && is_kept cut x) rs)
-      ≡ filter (is_kept cut) (filter (is_listed rs) (kept_by lasts rs))
-  listed_both =
-      ap (filter (is_listed rs)) (filter_both lasts (is_kept cut) (accepted_by [] rs))
-      ∙ filter_kept (is_kept cut) (is_listed rs) (is_listed rs) (λ x k. refl) (kept_by lasts rs)
-
-  -- a base that keeps what lasts of the kept identities, and of the issuers, alone is that which keeps what lasts, cut
-  pub base_split : (trailer other : List ℕ) → IsCut cut (base_with lasts rs trailer) (split_base cut lasts rs other)
-  unfolding base_with
-  base_split trailer other = record {
-    epoch = refl;
-    ranges = refl;
-    issuers = refl;
-    shown = filter_both (λ (e : Entry). lasts e.id) (λ (e : Entry). is_kept cut e.id) (seen rs);
-    accepted = filter_both lasts (is_kept cut) (accepted_by [] rs);
-    lists = λ x k. refl;
-    revoked = listed_both;
-  }
+pub base_ascends : (moment : ℕ) (kept : Cut) (rs : List Release) (trailer : List ℕ) → Ascend rs
+    → Ascend (base_at moment (releases_cut kept rs) trailer ∷ [])
+base_ascends moment kept rs trailer up = base_ascends_by moment (releases_cut kept rs) trailer (less_ascend kept rs up)

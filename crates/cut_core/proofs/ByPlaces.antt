@@ -20,7 +20,8 @@ use Rattle.universe_core.specs.declared.class.Class.TheVariants.{Unread, Uncover
 use Rattle.place_core.specs.declared.place.By.{By}
 use Rattle.place_core.specs.declared.place.By.TheVariants as ways
 use Rattle.place_core.specs.Places.{place_text, issuer_text, issuer_place, place_in}
-use Rattle.piece_core.specs.Cuts.{is_kept, keeps_entry, entry_place, at_place}
+use Rattle.place_core.specs.Cuts.{is_kept, at_place}
+use Rattle.piece_core.specs.Cuts.{keeps_entry, entry_place}
 use Rattle.piece_core.proofs.Places.{kept_at, entry_at}
 use Rattle.cut_core.specs.Cutting.{cut_facts}
 use Rattle.cut_core.specs.Courses.{Course, left}

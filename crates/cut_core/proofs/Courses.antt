@@ -16,11 +16,12 @@ use Rattle.ident_core.proofs.Elements.{some_item}
 use Rattle.universe_core.specs.Jobs.{Entry, Crl, JobFacts, crl_by, accepted_crl, facts_of}
 use Rattle.universe_core.specs.Formats.{JobIn, undated, reads_dates, entries_in, facts_in}
 use Rattle.universe_core.specs.History.{Release, past_of, released, releases, seen, sightings}
-use Rattle.history_core.specs.Bases.{releases_without, base_at}
+use Rattle.history_core.specs.Bases.{releases_cut, base_at}
 use Rattle.history_core.specs.Truth.{truth}
 use Rattle.publication_core.specs.Histories.{History, of_jobs, rebased, IsHistory, releases_of, releases_after, AreAdmissible, release_of}
 use Rattle.publication_core.proofs.Verdicts.{history_verdict}
-use Rattle.piece_core.specs.Cuts.{Cut, is_kept, keeps_entry}
+use Rattle.place_core.specs.Cuts.{Cut, is_kept}
+use Rattle.piece_core.specs.Cuts.{keeps_entry}
 use Rattle.cut_core.specs.Cutting.{cut_job, cut_in, cut_facts, IsCut}
 use Rattle.cut_core.specs.Courses.{Course, from_jobs, from_base, left_after, left, cut_course, course_of}
 use Rattle.cut_core.proofs.Filters.{filter_map_kept}
@@ -91,17 +92,17 @@ module _ (cut : Cut) where
 
   pub left_ascends : (c : Course) → Ascend (left c)
   left_ascends (from_jobs jobs) = releases_ascend cut (λ r j. zero_key) [] (map facts_in jobs) (λ r a. absurd a)
-  left_ascends (from_base c moment without jobs) =
-      releases_ascend cut (λ r j. zero_key) (base_at moment (releases_without without (left c)) zero_key ∷ []) (map facts_in jobs)
-      (base_ascends moment without (left c) zero_key (left_ascends c))
+  left_ascends (from_base c moment kept jobs) =
+      releases_ascend cut (λ r j. zero_key) (base_at moment (releases_cut kept (left c)) zero_key ∷ []) (map facts_in jobs)
+      (base_ascends moment kept (left c) zero_key (left_ascends c))
 
   pub course_beside : (c : Course) → AllZip (IsCut cut) (left c) (left (cut_course cut c))
   course_beside (from_jobs jobs) = left_beside [] [] jobs tt (λ r a. absurd a)
-  course_beside (from_base c moment without jobs) =
-      left_beside (base_at moment (releases_without without (left c)) zero_key ∷ [])
-      (base_at moment (releases_without without (left (cut_course cut c))) zero_key ∷ []) jobs
-      (base_beside cut without moment (left c) (left (cut_course cut c)) zero_key zero_key (course_beside c), tt)
-      (base_ascends moment without (left c) zero_key (left_ascends c))
+  course_beside (from_base c moment kept jobs) =
+      left_beside (base_at moment (releases_cut kept (left c)) zero_key ∷ [])
+      (base_at moment (releases_cut kept (left (cut_course cut c))) zero_key ∷ []) jobs
+      (base_beside cut kept moment (left c) (left (cut_course cut c)) zero_key zero_key (course_beside c), tt)
+      (base_ascends moment kept (left c) zero_key (left_ascends c))
 
   -- ---- histories with parts
 
@@ -112,7 +113,7 @@ module _ (cut : Cut) where
       (qs ++ released (past_of qs) job s.trailer ∷ [])) (sym (facts_cut j))
       (more_beside cut rs qs (facts_in j) zero_key s.trailer z up)
 
-  after_beside : (rs qs : List Release) (jobs : List JobIn) (parts : List SealedFields) → AllZip (IsCut cut) rs qs → Ascend rs
+  pub after_beside : (rs qs : List Release) (jobs : List JobIn) (parts : List SealedFields) → AllZip (IsCut cut) rs qs → Ascend rs
       → AreAdmissible qs (map (cut_in cut) jobs) parts
       → AllZip (IsCut cut) (left_after rs jobs) (releases_after qs (map (cut_in cut) jobs) parts)
   unfolding releases
@@ -133,7 +134,7 @@ module _ (cut : Cut) where
   jobs_same : (a b : List JobIn) → from_jobs a ≡ from_jobs b → a ≡ b
   jobs_same a b e = cc
 
-  bases_same : (c d : Course) (m n : ℕ) (v w : List (List ℕ)) (a b : List JobIn) → from_base c m v a ≡ from_base d n w b
+  bases_same : (c d : Course) (m n : ℕ) (v w : Cut) (a b : List JobIn) → from_base c m v a ≡ from_base d n w b
       → (c ≡ d) × (m ≡ n) × (v ≡ w) × (a ≡ b)
   bases_same c d m n v w a b e = (cc, cc, cc, cc)
 
@@ -141,29 +142,34 @@ module _ (cut : Cut) where
       → AllZip (IsCut cut) (left c) (releases_of h parts)
   history_beside (from_jobs jobs) (of_jobs js) parts e is =
       members_beside [] [] jobs js parts tt (λ r a. absurd a) (jobs_same js (map (cut_in cut) jobs) e) is
-  history_beside (from_jobs jobs) (rebased h old moment without js) parts e is = absurd cc
-  history_beside (from_base c moment without jobs) (of_jobs js) parts e is = absurd cc
-  history_beside (from_base c moment without jobs) (rebased h old at w js) [] e is = absurd is
-  history_beside (from_base c moment without jobs) (rebased h old at w js) (s ∷ parts) e is =
-      let same = bases_same (course_of h) (cut_course cut c) at moment w without js (map (cut_in cut) jobs) e in
-      let whole : Release = base_at moment (releases_without without (left c)) zero_key in
-      let by_moment : IsCut cut whole (base_at moment (releases_without w (releases_of h old)) s.trailer) =
-      subst (λ (v : List (List ℕ)). IsCut cut whole (base_at moment (releases_without v (releases_of h old)) s.trailer)) (sym same.2)
-      (base_beside cut without moment (left c) (releases_of h old) zero_key s.trailer (history_beside c h old same.0 is.0)) in
-      let base : IsCut cut whole (base_at at (releases_without w (releases_of h old)) s.trailer) =
-      subst (λ (m : ℕ). IsCut cut whole (base_at m (releases_without w (releases_of h old)) s.trailer)) (sym same.1) by_moment in
-      members_beside (whole ∷ []) (base_at at (releases_without w (releases_of h old)) s.trailer ∷ []) jobs js parts (base, tt)
-      (base_ascends moment without (left c) zero_key (left_ascends c)) same.3 is.3
+  history_beside (from_jobs jobs) (rebased h old moment kept js) parts e is = absurd cc
+  history_beside (from_base c moment kept jobs) (of_jobs js) parts e is = absurd cc
+  history_beside (from_base c moment kept jobs) (rebased h old at w js) [] e is = absurd is
+  history_beside (from_base c moment kept jobs) (rebased h old at w js) (s ∷ parts) e is =
+      let same = bases_same (course_of h) (cut_course cut c) at moment w kept js (map (cut_in cut) jobs) e in
+      let whole : Release = base_at moment (releases_cut kept (left c)) zero_key in
+      let by_moment : IsCut cut whole (base_at moment (releases_cut w (releases_of h old)) s.trailer) =
+      subst (λ (v : Cut). IsCut cut whole (base_at moment (releases_cut v (releases_of h old)) s.trailer)) (sym same.2)
+      (base_beside cut kept moment (left c) (releases_of h old) zero_key s.trailer (history_beside c h old same.0 is.0)) in
+      let base : IsCut cut whole (base_at at (releases_cut w (releases_of h old)) s.trailer) =
+      subst (λ (m : ℕ). IsCut cut whole (base_at m (releases_cut w (releases_of h old)) s.trailer)) (sym same.1) by_moment in
+      members_beside (whole ∷ []) (base_at at (releases_cut w (releases_of h old)) s.trailer ∷ []) jobs js parts (base, tt)
+      (base_ascends moment kept (left c) zero_key (left_ascends c)) same.3 is.3
 
 -- ---- the truth
 
--- the verdict of the parts of a cut history is the truth of the whole one, asked with its accepted sightings
+-- the verdict of the parts of a history beside releases is their truth, asked with their accepted sightings
+pub beside_verdict : (cut : Cut) (rs : List Release) (h : History) (parts : List SealedFields) (x : Identity) (ss : List Sighting)
+    → AllZip (IsCut cut) rs (releases_of h parts) → IsHistory h parts → is_kept cut x ≡ true → 1 ≤ length ss
+    → ((s : Sighting) → Among ss s → Among (sightings x (seen rs)) s) → verdict (map (λ s. s.part) parts) x ss ≡ truth rs x
+beside_verdict cut rs h parts x ss z is k some asked =
+    history_verdict h parts x ss is some (λ s a. subst (λ (ts : List Sighting). Among ts s)
+    (sym (sightings_beside cut x k rs (releases_of h parts) z)) (asked s a))
+    ∙ truth_beside cut x k rs (releases_of h parts) z
+
+-- so is that of the parts of a cut history the truth of the whole one
 pub cut_verdict : (cut : Cut) (c : Course) (h : History) (parts : List SealedFields) (x : Identity) (ss : List Sighting)
     → course_of h ≡ cut_course cut c → IsHistory h parts → is_kept cut x ≡ true → 1 ≤ length ss
     → ((s : Sighting) → Among ss s → Among (sightings x (seen (left c))) s)
     → verdict (map (λ s. s.part) parts) x ss ≡ truth (left c) x
-cut_verdict cut c h parts x ss e is k some asked =
-    let z : AllZip (IsCut cut) (left c) (releases_of h parts) = history_beside cut c h parts e is in
-    history_verdict h parts x ss is some (λ s a. subst (λ (ts : List Sighting). Among ts s)
-    (sym (sightings_beside cut x k (left c) (releases_of h parts) z)) (asked s a))
-    ∙ truth_beside cut x k (left c) (releases_of h parts) z
+cut_verdict cut c h parts x ss e is = beside_verdict cut (left c) h parts x ss (history_beside cut c h parts e is) is

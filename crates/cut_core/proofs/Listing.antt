@@ -10,7 +10,7 @@ use Rattle.universe_core.specs.History.{birth, is_listed}
 use Rattle.universe_core.proofs.Enrolled.{enrolled_test}
 use Rattle.publication_core.specs.Histories.{of_jobs, IsHistory, releases_of}
 use Rattle.publication_core.proofs.Facts.{listed_in_jobs}
-use Rattle.piece_core.specs.Cuts.{Cut, is_kept}
+use Rattle.place_core.specs.Cuts.{Cut, is_kept}
 use Rattle.cut_core.specs.Cutting.{cut_in, cut_facts, IsCut}
 use Rattle.cut_core.specs.Courses.{from_jobs, left}
 use Rattle.cut_core.proofs.Steps.{enrolls_kept, lists_kept}

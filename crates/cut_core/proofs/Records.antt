@@ -11,7 +11,8 @@ use Rattle.job_core.specs.JobText.{JobContents}
 use Rattle.job_core.specs.JobMeaning.{meaning_of}
 use Rattle.gather_core.specs.Raw.{with_entries}
 use Rattle.universe_core.specs.Jobs.{Entry}
-use Rattle.piece_core.specs.Cuts.{Cut, keeps_entry, kept_texts, cut_contents}
+use Rattle.place_core.specs.Cuts.{Cut}
+use Rattle.piece_core.specs.Cuts.{keeps_entry, kept_texts, cut_contents}
 use Rattle.cut_core.specs.Cutting.{cut_job}
 use Rattle.cut_core.specs.Texts.{IsPiece, IsMerged}
 use Rattle.piece_core.proofs.Keeping.{map_filter}

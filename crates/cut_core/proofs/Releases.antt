@@ -24,7 +24,7 @@ use Rattle.history_core.specs.Truth.{truth}
 use Rattle.history_core.proofs.Accepting.{accepted_ascend}
 use Rattle.history_core.proofs.Releases.{accepted_by-ascend, listed-cons}
 use Rattle.history_core.proofs.Words.{zip_push}
-use Rattle.piece_core.specs.Cuts.{Cut, is_kept}
+use Rattle.place_core.specs.Cuts.{Cut, is_kept}
 use Rattle.cut_core.specs.Cutting.{cut_facts, IsCut}
 use Rattle.cut_core.proofs.Filters.{any_beside, position_beside}
 use Rattle.cut_core.proofs.Steps.{taken, has_kept, has_other, has_key_kept, has_key_other}

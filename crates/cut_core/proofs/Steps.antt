@@ -18,7 +18,8 @@ use Rattle.universe_core.specs.History.{Past, class_by, class_of, if_accepted, s
 use Rattle.universe_core.specs.History.{accepted_with, universe, is_revoked, revoked, released}
 use Rattle.universe_core.specs.declared.class.Class.{Class}
 use Rattle.universe_core.specs.declared.class.Class.TheVariants.{Unread, Uncovered, Unenrolled, Late, Accepted}
-use Rattle.piece_core.specs.Cuts.{Cut, is_kept, keeps_entry}
+use Rattle.place_core.specs.Cuts.{Cut, is_kept}
+use Rattle.piece_core.specs.Cuts.{keeps_entry}
 use Rattle.cut_core.specs.Cutting.{cut_facts, IsCut}
 use Rattle.piece_core.proofs.Keeping.{map_filter}
 use Rattle.cut_core.proofs.Filters.{filter_kept, filter_within, filter_map_kept, key_set_kept, with_all_kept}

@@ -1,27 +1,30 @@
 -- A history with parts, beside what its jobs alone tell: that is cut by a cut that keeps all.
 use Rattle.std.specs.List.{filter, AllZip}
-use Rattle.std.proofs.Common.{◌≡◌, ◌≤◌, List, [], ◌∷◌, map, length, true, Option, Some, None, refl, sym, ap, ◌∙◌, subst}
+use Rattle.std.proofs.Common.{◌≡◌, ℕ, ◌≤◌, List, [], ◌∷◌, map, length, true, Option, Some, None, refl, sym, ap, ◌∙◌, subst}
 use Rattle.std.proofs.lemmas.List.Elements.{filter_agree}
 use Rattle.ident_core.specs.declared.identity.Identity.{Identity}
 use Rattle.ident_core.specs.declared.range.Sighting.{Sighting}
 use Rattle.ident_core.specs.Among.{Among}
+use Rattle.ident_core.specs.HeadFields.{zero_key}
 use Rattle.card_core.specs.Verdict.{verdict}
 use Rattle.part_text.specs.SealedFields.{SealedFields}
 use Rattle.job_core.specs.JobFields.{CrlMeaning, JobFields}
 use Rattle.universe_core.specs.Jobs.{Entry}
 use Rattle.universe_core.specs.Formats.{JobIn}
-use Rattle.universe_core.specs.History.{seen, sightings}
+use Rattle.universe_core.specs.History.{Release, seen, sightings}
+use Rattle.history_core.specs.Bases.{release_cut, releases_cut, base_at}
 use Rattle.history_core.specs.Truth.{truth}
-use Rattle.publication_core.specs.Histories.{History, IsHistory, releases_of}
-use Rattle.piece_core.specs.Cuts.{Cut, is_kept, keeps_entry}
+use Rattle.history_core.proofs.Cuts.{cut_by_everything}
+use Rattle.publication_core.specs.Histories.{History, rebased, IsHistory, releases_of}
+use Rattle.place_core.specs.Cuts.{Cut, is_kept, everything}
+use Rattle.piece_core.specs.Cuts.{keeps_entry}
 use Rattle.cut_core.specs.Cutting.{cut_job, cut_in, IsCut}
 use Rattle.cut_core.specs.Courses.{Course, from_jobs, from_base, left, cut_course, course_of}
 use Rattle.cut_core.proofs.Filters.{filter_all}
 use Rattle.cut_core.proofs.Releases.{sightings_beside, truth_beside}
-use Rattle.cut_core.proofs.Courses.{history_beside, cut_verdict}
-
-abbrev everything : Cut
-everything = record { takes = λ issuer. true; chooses = λ x. true; unread = true }
+use Rattle.cut_core.proofs.Again.{release_again}
+use Rattle.cut_core.proofs.Bases.{release_is_cut, base_cut, base_ascends}
+use Rattle.cut_core.proofs.Courses.{after_beside, left_ascends, history_beside, beside_verdict, cut_verdict}
 
 entry_kept : (o : Option Entry) → keeps_entry everything o ≡ true
 entry_kept None = refl
@@ -41,9 +44,18 @@ jobs_whole (j ∷ jobs) =
 
 course_whole : (c : Course) → cut_course everything c ≡ c
 course_whole (from_jobs jobs) = ap from_jobs (jobs_whole jobs)
-course_whole (from_base c moment without jobs) =
-    ap (λ (d : Course). from_base d moment without (map (cut_in everything) jobs)) (course_whole c)
-    ∙ ap (from_base c moment without) (jobs_whole jobs)
+course_whole (from_base c moment kept jobs) =
+    ap (λ (d : Course). from_base d moment kept (map (cut_in everything) jobs)) (course_whole c)
+    ∙ ap (from_base c moment kept) (jobs_whole jobs)
+
+-- what is kept of releases beside those with parts
+rest_beside : (cut : Cut) (rs qs : List Release) → AllZip (IsCut everything) rs qs → AllZip (IsCut cut) rs (releases_cut cut qs)
+unfolding releases_cut
+rest_beside cut [] [] z = z
+rest_beside cut [] (q ∷ qs) z = absurd z
+rest_beside cut (r ∷ rs) [] z = absurd z
+rest_beside cut (r ∷ rs) (q ∷ qs) z =
+    (release_again everything cut r q (release_cut cut q) z.0 (release_is_cut cut q), rest_beside cut rs qs z.1)
 
 module _ (h : History) (parts : List SealedFields) (is : IsHistory h parts) where
   beside : AllZip (IsCut everything) (left (course_of h)) (releases_of h parts)
@@ -54,6 +66,39 @@ module _ (h : History) (parts : List SealedFields) (is : IsHistory h parts) wher
 
   pub whole_sightings : (x : Identity) → sightings x (seen (releases_of h parts)) ≡ sightings x (seen (left (course_of h)))
   whole_sightings x = sightings_beside everything x refl (left (course_of h)) (releases_of h parts) beside
+
+-- ---- a chain that is begun anew by what is kept of a history, beside the whole, begun anew
+
+module _ (cut : Cut) (whole : History) (old : List SealedFields) (moment : ℕ) (jobs : List JobIn) where
+  abbrev begun : Course
+  begun = from_base (course_of whole) moment everything jobs
+
+  abbrev split : History
+  split = rebased whole old moment cut (map (cut_in cut) jobs)
+
+  base_split : (trailer : List ℕ) → IsHistory whole old
+      → IsCut cut (base_at moment (releases_cut everything (left (course_of whole))) zero_key)
+      (base_at moment (releases_cut cut (releases_of whole old)) trailer)
+  base_split trailer is =
+      base_cut cut moment (releases_cut everything (left (course_of whole))) (releases_cut cut (releases_of whole old))
+      (subst (λ (rs : List Release). AllZip (IsCut cut) rs (releases_cut cut (releases_of whole old)))
+      (sym (cut_by_everything (left (course_of whole))))
+      (rest_beside cut (left (course_of whole)) (releases_of whole old) (beside whole old is))) zero_key trailer
+
+  pub split_beside : (parts : List SealedFields) → IsHistory split parts → AllZip (IsCut cut) (left begun) (releases_of split parts)
+  split_beside [] is = absurd is
+  split_beside (s ∷ parts) is =
+      after_beside cut (base_at moment (releases_cut everything (left (course_of whole))) zero_key ∷ [])
+      (base_at moment (releases_cut cut (releases_of whole old)) s.trailer ∷ []) jobs parts (base_split s.trailer is.0, tt)
+      (base_ascends moment everything (left (course_of whole)) zero_key (left_ascends cut (course_of whole))) is.3
+
+  -- the verdict of its parts is the truth of the whole, begun anew
+  pub split_verdict : (parts : List SealedFields) (x : Identity) (ss : List Sighting) → IsHistory split parts → is_kept cut x ≡ true
+      → 1 ≤ length ss → ((s : Sighting) → Among ss s → Among (sightings x (seen (left begun))) s)
+      → verdict (map (λ s. s.part) parts) x ss ≡ truth (left begun) x
+  split_verdict parts x ss is = beside_verdict cut (left begun) split parts x ss (split_beside parts is) is
+
+-- ---- the truth
 
 -- the verdict of the parts of a cut history is the truth of the whole one, where that has parts too
 pub whole_verdict : (cut : Cut) (whole kept : History) (old parts : List SealedFields) (x : Identity) (ss : List Sighting)

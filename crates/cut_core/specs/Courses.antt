@@ -4,16 +4,16 @@ use Rattle.std.specs.Prelude.{ℕ, List, [], ◌∷◌, map}
 use Rattle.ident_core.specs.HeadFields.{zero_key}
 use Rattle.universe_core.specs.Formats.{JobIn, facts_in}
 use Rattle.universe_core.specs.History.{Release, releases}
-use Rattle.history_core.specs.Bases.{releases_without, base_at}
+use Rattle.history_core.specs.Bases.{releases_cut, base_at}
 use Rattle.publication_core.specs.Histories.{History, of_jobs, rebased}
-use Rattle.piece_core.specs.Cuts.{Cut}
+use Rattle.place_core.specs.Cuts.{Cut}
 use Rattle.cut_core.specs.Cutting.{cut_in}
 
--- Jobs from the first on; or a base, which stands at a moment and without some issuers for all before it, and the jobs
--- behind it.
+-- Jobs from the first on; or a base, which stands at a moment for what a cut keeps of all before it, and the jobs behind
+-- it.
 pub data Course : Type 0 where
   from_jobs : List JobIn → Course
-  from_base : Course → ℕ → List (List ℕ) → List JobIn → Course
+  from_base : Course → ℕ → Cut → List JobIn → Course
 
 -- these releases, and then what the jobs leave; no part is known, and the trailers are zeros
 abbrev pub left_after : List Release → List JobIn → List Release
@@ -22,14 +22,14 @@ left_after rs jobs = releases (λ rs job. zero_key) rs (map facts_in jobs)
 -- what the members of a course leave
 abbrev pub left : Course → List Release
 left (from_jobs jobs) = left_after [] jobs
-left (from_base c moment without jobs) = left_after (base_at moment (releases_without without (left c)) zero_key ∷ []) jobs
+left (from_base c moment kept jobs) = left_after (base_at moment (releases_cut kept (left c)) zero_key ∷ []) jobs
 
 -- the same members, and of each job what is kept
 abbrev pub cut_course : Cut → Course → Course
 cut_course cut (from_jobs jobs) = from_jobs (map (cut_in cut) jobs)
-cut_course cut (from_base c moment without jobs) = from_base (cut_course cut c) moment without (map (cut_in cut) jobs)
+cut_course cut (from_base c moment kept jobs) = from_base (cut_course cut c) moment kept (map (cut_in cut) jobs)
 
 -- the course of a history: its members, without their parts
 abbrev pub course_of : History → Course
 course_of (of_jobs jobs) = from_jobs jobs
-course_of (rebased h old moment without jobs) = from_base (course_of h) moment without jobs
+course_of (rebased h old moment kept jobs) = from_base (course_of h) moment kept jobs

@@ -1,12 +1,12 @@
 -- Jobs of which some is kept, and what they leave beside what the whole jobs leave.
-use Rattle.std.specs.Prelude.{◌≡◌, ◌&&◌, ℕ, List, filter, Bool, true}
+use Rattle.std.specs.Prelude.{◌≡◌, filter, true}
 use Rattle.ident_core.specs.declared.identity.Identity.{Identity}
 use Rattle.job_core.specs.JobFields.{JobFields}
-use Rattle.piece_core.specs.Cuts.{Cut, is_kept, keeps_entry}
+use Rattle.place_core.specs.Cuts.{Cut, is_kept}
+use Rattle.piece_core.specs.Cuts.{keeps_entry}
 use Rattle.universe_core.specs.Jobs.{JobFacts}
 use Rattle.universe_core.specs.Formats.{JobIn}
 use Rattle.universe_core.specs.History.{Release}
-use Rattle.history_core.specs.Bases.{all_issuers, base_with}
 
 -- ---- jobs
 
@@ -39,9 +39,3 @@ pub record IsCut (cut : Cut) (whole kept : Release) : Type 0 where
   pub shown : kept.shown ≡ filter (λ e. is_kept cut e.id) whole.shown
   pub accepted : kept.accepted ≡ filter (is_kept cut) whole.accepted
   pub revoked : kept.revoked ≡ filter (is_kept cut) whole.revoked
-
--- A base of releases that aren't cut, which keeps what lasts of the kept identities alone: so a chain is begun anew, cut.
-abbrev pub split_base : Cut → (Identity → Bool) → List Release → List ℕ → Release
-split_base cut lasts rs trailer = record (base_with (λ x. lasts x && is_kept cut x) rs trailer) {
-  issuers = filter cut.takes (all_issuers rs);
-}

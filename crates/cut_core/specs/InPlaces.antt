@@ -7,7 +7,7 @@ use Rattle.universe_core.specs.Counting.{counts}
 use Rattle.universe_core.specs.declared.counts.Counts.{Counts}
 use Rattle.place_core.specs.declared.place.By.{By}
 use Rattle.place_core.specs.declared.place.By.TheVariants as ways
-use Rattle.piece_core.specs.Cuts.{at_place}
+use Rattle.place_core.specs.Cuts.{at_place}
 use Rattle.cut_core.specs.Cutting.{cut_job, cut_in}
 use Rattle.cut_core.specs.Courses.{Course, left, cut_course}
 

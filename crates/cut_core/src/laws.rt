@@ -1,7 +1,7 @@
 //! What is left of cut jobs, whichever identities are kept.
 
-ghost use Rattle.std.specs.Prelude.{◌≡◌, ◌<◌, ◌≤◌, [], ℕ, List, Bool, Some, All, IfSome, IsOk};
-ghost use Rattle.std.specs.Prelude.{true, false, map, filter, length};
+ghost use Rattle.std.specs.Prelude.{◌≡◌, ◌<◌, ◌≤◌, [], ℕ, List, Some, All, IfSome, IsOk};
+ghost use Rattle.std.specs.Prelude.{true, false, map, length};
 ghost use Rattle.std.specs.List.{AllZip};
 ghost use Rattle.ident_core.specs.declared.bounds.TheConstants.{MAX_PARTS};
 ghost use Rattle.ident_core.specs.declared.identity.Identity.{Identity};
@@ -16,32 +16,37 @@ ghost use Rattle.universe_core.specs.Dates.{until};
 ghost use Rattle.universe_core.specs.History.{Release, past_of, releases, class_of, accepted_with};
 ghost use Rattle.universe_core.specs.History.{accepted_by, seen, sightings, birth, is_listed};
 ghost use Rattle.universe_core.specs.Ledgers.{last};
-ghost use Rattle.history_core.specs.Bases.{base_with, releases_without, base_at};
+ghost use Rattle.history_core.specs.Bases.{releases_cut, base_at};
 ghost use Rattle.history_core.specs.Truth.{truth};
 ghost use Rattle.publication_core.specs.Building.{HaveBlocks};
-ghost use Rattle.publication_core.specs.Histories.{History, IsHistory, releases_of};
+ghost use Rattle.publication_core.specs.Histories.{History, rebased, IsHistory, releases_of};
 ghost use Rattle.publication_core.specs.Histories.{newest_of, groups_of, GoesOn, IsAdmissible};
-ghost use Rattle.piece_core.specs.Cuts.{Cut, is_kept, both};
-ghost use Rattle.cut_core.specs.Cutting.{cut_job, cut_in, cut_facts, IsCut, split_base};
-ghost use Rattle.cut_core.specs.Courses.{Course, left, cut_course, course_of};
+ghost use Rattle.place_core.specs.Cuts.{Cut, is_kept, both, everything};
+ghost use Rattle.cut_core.specs.Cutting.{cut_job, cut_in, cut_facts, IsCut};
+ghost use Rattle.cut_core.specs.Courses.{Course, from_base, left, cut_course, course_of};
 
 /// What cut jobs leave is what the whole jobs leave, without what isn't kept, whichever that is, and however many
 /// identities the whole jobs accept: of jobs from the first on (`jobs`), of a course (`courses`), and of a history
 /// with parts that has a course's jobs, cut (`histories`). The base of what is cut is the base of the whole, cut
-/// (`bases`). A chain that isn't cut is begun anew, cut, by a base that keeps what lasts of the kept identities
-/// alone (`splits`). What is cut is cut again (`again`), as its jobs are (`again_jobs`).
+/// (`bases`), whichever of it the base keeps. A chain that isn't cut is begun anew, cut, by the base of what is kept
+/// (`splits`); so what it leaves with the cut jobs is what the whole leaves, begun anew with all of it, and gone on with
+/// the whole jobs (`begun`). What is cut is cut again (`again`), as its jobs are (`again_jobs`).
 pub fn cuts_leave_what_is_kept()
     ensures jobs { (cut : Cut) (trailer other : List Release → JobFacts → List ℕ) (jobs : List JobFacts)
         → AllZip (IsCut cut) (releases trailer [] jobs) (releases other [] (map (cut_facts cut) jobs)) }
     ensures courses { (cut : Cut) (c : Course) → AllZip (IsCut cut) (left c) (left (cut_course cut c)) }
     ensures histories { (cut : Cut) (c : Course) (h : History) (parts : List SealedFields)
         → course_of h ≡ cut_course cut c → IsHistory h parts → AllZip (IsCut cut) (left c) (releases_of h parts) }
-    ensures bases { (cut : Cut) (moment : ℕ) (without : List (List ℕ)) (rs qs : List Release) (trailer other : List ℕ)
+    ensures bases { (cut : Cut) (moment : ℕ) (kept : Cut) (rs qs : List Release) (trailer other : List ℕ)
         → AllZip (IsCut cut) rs qs
-        → IsCut cut (base_at moment (releases_without without rs) trailer)
-        (base_at moment (releases_without without qs) other) }
-    ensures splits { (cut : Cut) (lasts : Identity → Bool) (rs : List Release) (trailer other : List ℕ)
-        → IsCut cut (base_with lasts rs trailer) (split_base cut lasts rs other) }
+        → IsCut cut (base_at moment (releases_cut kept rs) trailer)
+        (base_at moment (releases_cut kept qs) other) }
+    ensures splits { (cut : Cut) (moment : ℕ) (rs : List Release) (trailer other : List ℕ)
+        → IsCut cut (base_at moment rs trailer) (base_at moment (releases_cut cut rs) other) }
+    ensures begun { (cut : Cut) (whole : History) (old : List SealedFields) (moment : ℕ) (jobs : List JobIn)
+        (parts : List SealedFields) → IsHistory (rebased whole old moment cut (map (cut_in cut) jobs)) parts
+        → AllZip (IsCut cut) (left (from_base (course_of whole) moment everything jobs))
+        (releases_of (rebased whole old moment cut (map (cut_in cut) jobs)) parts) }
     ensures again { (a b : Cut) (r q s : Release) → IsCut a r q → IsCut b q s → IsCut (both a b) r s }
     ensures again_jobs { (a b : Cut) (job : JobFields) → cut_job b (cut_job a job) ≡ cut_job (both a b) job }
 {}

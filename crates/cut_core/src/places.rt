@@ -6,6 +6,7 @@ ghost use Rattle.ident_core.specs.declared.range.Sighting.{Sighting};
 ghost use Rattle.ident_core.specs.Among.{Among};
 ghost use Rattle.place_core.specs.declared.place.By.{By};
 ghost use Rattle.place_core.specs.Places.{issuer_place, place_in};
+ghost use Rattle.place_core.specs.Cuts.{everything, at_place};
 ghost use Rattle.card_core.specs.PartFields.{PartFields};
 ghost use Rattle.card_core.specs.Verdict.{verdict};
 ghost use Rattle.part_text.specs.SealedFields.{SealedFields};
@@ -14,11 +15,11 @@ ghost use Rattle.universe_core.specs.Jobs.{Entry};
 ghost use Rattle.universe_core.specs.Formats.{JobIn};
 ghost use Rattle.universe_core.specs.History.{seen, sightings};
 ghost use Rattle.history_core.specs.Truth.{truth};
-ghost use Rattle.publication_core.specs.Histories.{History, IsHistory, releases_of};
+ghost use Rattle.publication_core.specs.Histories.{History, rebased, IsHistory, releases_of};
 ghost use Rattle.audit_core.specs.Auditing.{AllAgree, releases_of as audited_of};
-ghost use Rattle.cut_core.specs.Courses.{Course, left, course_of};
+ghost use Rattle.cut_core.specs.Courses.{Course, from_base, left, course_of};
 ghost use Rattle.piece_core.specs.Cuts.{entry_place};
-ghost use Rattle.cut_core.specs.InPlaces.{job_at, course_at, AddUp};
+ghost use Rattle.cut_core.specs.InPlaces.{job_at, in_at, course_at, AddUp};
 
 /// The jobs of the places have the entries of the whole job, each in the one job of its place (`below`), in their
 /// order (`parted`). By identities each has all its CRLs (`crls`), by issuers each CRL is in the one job of its
@@ -36,8 +37,10 @@ pub fn entries_have_one_place()
 {}
 
 /// Where the jobs of a certificate's place are a history with parts, the verdict of these parts for it, asked with
-/// one or more of its accepted sightings in the whole jobs, is the truth of the whole jobs (`published`); so is
-/// that of any parts with which an audit by the jobs of the place agrees (`audited`).
+/// one or more of its accepted sightings in the whole jobs, is the truth of the whole jobs (`published`), and of a whole
+/// history with parts of its own (`whole`). So is that of the parts of a chain that is begun anew by what its place keeps
+/// of a history the truth of this, begun anew whole (`split`); and that of any parts with which an audit by the jobs of
+/// the place agrees that of the whole jobs (`audited`).
 pub fn places_say_the_truth()
     ensures published { (by : By) (count : ℕ) (c : Course) (x : Identity) (h : History) (parts : List SealedFields)
         (ss : List Sighting) → course_of h ≡ course_at by count (place_in by count x) c → IsHistory h parts
@@ -49,6 +52,13 @@ pub fn places_say_the_truth()
         → course_of kept ≡ course_at by count (place_in by count x) (course_of whole) → 1 ≤ length ss
         → ((s : Sighting) → Among ss s → Among (sightings x (seen (releases_of whole old))) s)
         → verdict (map (λ s. s.part) parts) x ss ≡ truth (releases_of whole old) x }
+    ensures split { (by : By) (count : ℕ) (whole : History) (old : List SealedFields) (moment : ℕ) (jobs : List JobIn)
+        (x : Identity) (parts : List SealedFields) (ss : List Sighting)
+        → IsHistory (rebased whole old moment (at_place by count (place_in by count x))
+        (map (in_at by count (place_in by count x)) jobs)) parts → 1 ≤ length ss
+        → ((s : Sighting) → Among ss s
+        → Among (sightings x (seen (left (from_base (course_of whole) moment everything jobs)))) s)
+        → verdict (map (λ s. s.part) parts) x ss ≡ truth (left (from_base (course_of whole) moment everything jobs)) x }
     ensures audited { (by : By) (count : ℕ) (jobs : List JobFields) (x : Identity) (parts : List PartFields)
         (ss : List Sighting) → AllAgree parts (map (job_at by count (place_in by count x)) jobs) → 1 ≤ length ss
         → ((s : Sighting) → Among ss s → Among (sightings x (seen (audited_of jobs))) s)

@@ -3,7 +3,8 @@
 ghost use Rattle.std.specs.Prelude.{◌≡◌, ◌++◌, List, All, map};
 ghost use Rattle.job_core.specs.JobText.{JobContents};
 ghost use Rattle.job_core.specs.JobMeaning.{meaning_of};
-ghost use Rattle.piece_core.specs.Cuts.{Cut, cut_contents};
+ghost use Rattle.place_core.specs.Cuts.{Cut};
+ghost use Rattle.piece_core.specs.Cuts.{cut_contents};
 ghost use Rattle.cut_core.specs.Cutting.{cut_job};
 ghost use Rattle.cut_core.specs.Texts.{IsMerged};
 

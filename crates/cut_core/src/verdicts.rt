@@ -1,6 +1,6 @@
 //! What the parts of cut histories say.
 
-ghost use Rattle.std.specs.Prelude.{◌≡◌, ◌≤◌, ◌&&◌, List, true, map, drop, length};
+ghost use Rattle.std.specs.Prelude.{◌≡◌, ◌≤◌, ◌&&◌, ℕ, List, true, map, drop, length};
 ghost use Rattle.std.specs.List.{list_any};
 ghost use Rattle.ident_core.specs.declared.identity.Identity.{Identity};
 ghost use Rattle.ident_core.specs.declared.range.Sighting.{Sighting};
@@ -13,16 +13,18 @@ ghost use Rattle.universe_core.specs.Jobs.{is_enrolled, lists};
 ghost use Rattle.universe_core.specs.Formats.{JobIn, facts_in};
 ghost use Rattle.universe_core.specs.History.{seen, sightings, birth, is_listed};
 ghost use Rattle.history_core.specs.Truth.{truth};
-ghost use Rattle.publication_core.specs.Histories.{History, of_jobs, IsHistory, releases_of};
+ghost use Rattle.publication_core.specs.Histories.{History, of_jobs, rebased, IsHistory, releases_of};
 ghost use Rattle.audit_core.specs.Auditing.{AllAgree, releases_of as audited_of};
-ghost use Rattle.piece_core.specs.Cuts.{Cut, is_kept};
+ghost use Rattle.place_core.specs.Cuts.{Cut, is_kept, everything};
 ghost use Rattle.cut_core.specs.Cutting.{cut_job, cut_in};
-ghost use Rattle.cut_core.specs.Courses.{Course, from_jobs, left, cut_course, course_of};
+ghost use Rattle.cut_core.specs.Courses.{Course, from_jobs, from_base, left, cut_course, course_of};
 
 /// Where cut jobs are a history with parts, the verdict of these parts for a kept certificate, asked with one or
 /// more of its accepted sightings in the whole jobs, is the truth of the whole jobs (`published`), and of a whole
 /// history with parts of its own (`whole`). So is that of any parts with which an audit by the cut jobs agrees
-/// (`audited`). And this truth is, in words of the whole jobs, what a job since the certificate's birth lists and
+/// (`audited`). Where a chain is begun anew by what is kept of a history, and goes on with the cut jobs, the verdict is
+/// the truth of the whole history, begun anew with all of it, and gone on with the whole jobs (`split`). And the truth
+/// of jobs from the first on is, in words of the whole jobs, what a job since the certificate's birth lists and
 /// enrolls the issuer of (`words`).
 pub fn cut_parts_say_the_truth()
     ensures published { (cut : Cut) (c : Course) (h : History) (parts : List SealedFields) (x : Identity)
@@ -38,6 +40,12 @@ pub fn cut_parts_say_the_truth()
         (ss : List Sighting) → AllAgree parts (map (cut_job cut) jobs) → is_kept cut x ≡ true → 1 ≤ length ss
         → ((s : Sighting) → Among ss s → Among (sightings x (seen (audited_of jobs))) s)
         → verdict parts x ss ≡ truth (audited_of jobs) x }
+    ensures split { (cut : Cut) (whole : History) (old : List SealedFields) (moment : ℕ) (jobs : List JobIn)
+        (parts : List SealedFields) (x : Identity) (ss : List Sighting)
+        → IsHistory (rebased whole old moment cut (map (cut_in cut) jobs)) parts → is_kept cut x ≡ true → 1 ≤ length ss
+        → ((s : Sighting) → Among ss s
+        → Among (sightings x (seen (left (from_base (course_of whole) moment everything jobs)))) s)
+        → verdict (map (λ s. s.part) parts) x ss ≡ truth (left (from_base (course_of whole) moment everything jobs)) x }
     ensures words { (cut : Cut) (jobs : List JobIn) (parts : List SealedFields) (x : Identity)
         → IsHistory (of_jobs (map (cut_in cut) jobs)) parts → is_kept cut x ≡ true
         → is_listed (left (from_jobs jobs)) x

@@ -16,6 +16,6 @@ pub mod Bases
 pub mod Kept
 pub mod BaseLedgers
 pub mod BaseAnswers
-pub mod Without
+pub mod Cuts
 pub mod Returning
 pub mod Computed

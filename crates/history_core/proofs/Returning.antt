@@ -1,18 +1,18 @@
 -- Issuers that no release enrolls, and what a job accepts of them.
 use Rattle.std.specs.List.{flat_map}
 use Rattle.std.proofs.Common.{◌≡◌, ℕ, inl, inr, ⊎_elim, List, [], ◌∷◌, ◌++◌, map, Bool, true, false, not, ◌&&◌, ◌||◌, Some, refl, sym, ◌∙◌, subst}
-use Rattle.std.proofs.lemmas.Bool.{true≢false}
+use Rattle.std.proofs.lemmas.Bool.{true≢false, false≢true}
 use Rattle.ident_core.specs.declared.identity.Identity.{Identity}
 use Rattle.ident_core.specs.declared.range.Sighting.{Sighting}
 use Rattle.ident_core.specs.Coverage.{covers}
 use Rattle.ident_core.specs.Among.{Among}
 use Rattle.ident_core.specs.Sets.{has, has_key}
+use Rattle.place_core.specs.Cuts.{Cut}
 use Rattle.ident_core.proofs.Elements.{Among-filter, Among-map, Among-right, Among-cases}
 use Rattle.ident_core.proofs.Sets.{Among-from_has_key, Among-from_key_set}
 use Rattle.universe_core.specs.Jobs.{Entry, JobFacts, enrolled}
 use Rattle.universe_core.specs.History.{Release, past_of, released, shown, seen, comes_late_behind}
-use Rattle.universe_core.specs.Rebases.{is_other}
-use Rattle.history_core.specs.Bases.{all_issuers, base_with, release_without, releases_without}
+use Rattle.history_core.specs.Bases.{all_issuers, base_with, release_cut, releases_cut}
 use Rattle.history_core.proofs.Accepting.{IsShown, shown_has}
 use Rattle.history_core.proofs.Releases.{seen-push}
 
@@ -28,23 +28,19 @@ never : (b : Bool) → (b ≡ true → ⊥) → b ≡ false
 never true h = absurd (h refl)
 never false h = refl
 
-not_left : (b : Bool) → b ≡ true → not b ≡ true → ⊥
-not_left true h k = true≢false (sym k)
-not_left false h k = true≢false (sym h)
+left_out_of : (cut : Cut) (rs : List Release) (k : List ℕ) → cut.takes k ≡ false → has_key (all_issuers (releases_cut cut rs)) k ≡ true → ⊥
+unfolding releases_cut
+left_out_of cut rs k h a =
+    let n = Among-from_flat_map (map (release_cut cut) rs) k (Among-from_key_set (flat_map (λ (r : Release). r.issuers) (map (release_cut cut) rs)) k
+    (Among-from_has_key (all_issuers (map (release_cut cut) rs)) k a)) in
+    let m = Among-map (release_cut cut) rs n.0 n.1 in
+    let f = Among-filter cut.takes m.0.issuers k (subst (λ (r : Release). Among r.issuers k) (sym m.2) n.2) in
+    false≢true (sym h ∙ f.1)
 
-left_out_of : (w : List (List ℕ)) (rs : List Release) (k : List ℕ) → has_key w k ≡ true → has_key (all_issuers (releases_without w rs)) k ≡ true → ⊥
-unfolding releases_without
-left_out_of w rs k h a =
-    let n = Among-from_flat_map (map (release_without w) rs) k (Among-from_key_set (flat_map (λ (r : Release). r.issuers) (map (release_without w) rs)) k
-    (Among-from_has_key (all_issuers (map (release_without w) rs)) k a)) in
-    let m = Among-map (release_without w) rs n.0 n.1 in
-    let f = Among-filter (is_other w) m.0.issuers k (subst (λ (r : Release). Among r.issuers k) (sym m.2) n.2) in
-    not_left (has_key w k) h f.1
-
-pub base_unenrolled : (keeps : Identity → Bool) (w : List (List ℕ)) (rs : List Release) (trailer k : List ℕ) → has_key w k ≡ true
-    → has_key (base_with keeps (releases_without w rs) trailer).issuers k ≡ false
+pub base_unenrolled : (keeps : Identity → Bool) (cut : Cut) (rs : List Release) (trailer k : List ℕ) → cut.takes k ≡ false
+    → has_key (base_with keeps (releases_cut cut rs) trailer).issuers k ≡ false
 unfolding base_with
-base_unenrolled keeps w rs trailer k h = never (has_key (all_issuers (releases_without w rs)) k) (left_out_of w rs k h)
+base_unenrolled keeps cut rs trailer k h = never (has_key (all_issuers (releases_cut cut rs)) k) (left_out_of cut rs k h)
 
 -- ---- what comes of its entries
 

@@ -1,15 +1,15 @@
 -- The base of a history: the first release of a new chain, which stands for all the releases before it. Which identities
--- it keeps is told by a test. A base without some issuers is that of the releases without them.
+-- it keeps is told by a test. A base of what a cut keeps is that of the releases, cut.
 use Rattle.std.specs.Prelude.{ℕ, List, [], ◌∷◌, map, filter, flat_map, Bool, not}
 use Rattle.ident_core.specs.declared.identity.Identity.{Identity}
 use Rattle.ident_core.specs.declared.range.Range.{Range}
 use Rattle.ident_core.specs.declared.kind.Kind.TheVariants as kinds
 use Rattle.ident_core.specs.HeadFields.{HeadFields, zero_key}
 use Rattle.ident_core.specs.Sets.{key_set}
+use Rattle.place_core.specs.Cuts.{Cut, is_kept}
 use Rattle.universe_core.specs.Jobs.{is_stale}
 use Rattle.universe_core.specs.History.{Release, accepted_by, seen, is_listed}
 use Rattle.universe_core.specs.Dates.{until}
-use Rattle.universe_core.specs.Rebases.{is_other}
 
 -- the ranges, and the epoch, of the newest release; these where there is none
 unfoldable pub newest_ranges : List Range → List Release → List Range
@@ -46,23 +46,23 @@ base_with keeps rs trailer = record {
 abbrev pub base_head : List Release → HeadFields
 base_head rs = record { kind = kinds.Snapshot; epoch = newest_epoch 0 rs; parent = zero_key; ranges = newest_ranges [] rs }
 
--- ---- without some issuers
+-- ---- what a cut keeps
 
--- what a release leaves, but for these issuers and their identities
-abbrev pub release_without : List (List ℕ) → Release → Release
-release_without without r = record {
+-- what a release leaves of the issuers that are taken, and of the identities that are kept
+abbrev pub release_cut : Cut → Release → Release
+release_cut cut r = record {
   epoch = r.epoch;
   trailer = r.trailer;
   ranges = r.ranges;
-  issuers = filter (is_other without) r.issuers;
+  issuers = filter cut.takes r.issuers;
   lists = r.lists;
-  shown = filter (λ e. is_other without e.id.issuer) r.shown;
-  accepted = filter (λ x. is_other without x.issuer) r.accepted;
-  revoked = filter (λ x. is_other without x.issuer) r.revoked;
+  shown = filter (λ e. is_kept cut e.id) r.shown;
+  accepted = filter (is_kept cut) r.accepted;
+  revoked = filter (is_kept cut) r.revoked;
 }
 
-unfoldable pub releases_without : List (List ℕ) → List Release → List Release
-releases_without without rs = map (release_without without) rs
+unfoldable pub releases_cut : Cut → List Release → List Release
+releases_cut cut rs = map (release_cut cut) rs
 
 -- ---- at a moment, in milliseconds since 1970
 

@@ -10,6 +10,7 @@ ghost use Rattle.job_core.specs.JobFields.{JobFields};
 ghost use Rattle.ledger_core.specs.declared.fields.LedgerItem.{LedgerItem};
 ghost use Rattle.ident_core.specs.Among.{Among};
 ghost use Rattle.ident_core.specs.Sets.{has, has_key};
+ghost use Rattle.place_core.specs.Cuts.{Cut, is_kept, everything};
 ghost use Rattle.universe_core.specs.Jobs.{Entry, JobFacts, facts_of, enrolled, lists};
 ghost use Rattle.universe_core.specs.History.{Release, Past, past_of, released, releases, accepted_by, seen};
 ghost use Rattle.universe_core.specs.History.{sightings, birth, enrolls_and_lists, is_listed, already_revoked_by, comes_late_behind};
@@ -19,13 +20,13 @@ ghost use Rattle.universe_core.specs.Groups.{GroupFields, groups};
 ghost use Rattle.universe_core.specs.Counting.{count, counts};
 ghost use Rattle.universe_core.specs.declared.class.Class.TheVariants.{Unread, Uncovered, Unenrolled, Late, Accepted};
 ghost use Rattle.universe_core.specs.Ledgers.{no_ledger, past_in, next_ledger, item_from, ledger_of, last};
-ghost use Rattle.universe_core.specs.Rebases.{is_other, ledger_without, is_lasting, rebased_head, rebased_groups, rebased_ledger};
+ghost use Rattle.universe_core.specs.Rebases.{ledger_cut, is_lasting, rebased_head, rebased_groups, rebased_ledger};
 ghost use Rattle.universe_core.specs.Step.{refusal, groups_after, counts_after};
 ghost use Rattle.history_core.specs.Facts.{IsSound, KeepsCoverage, AllKeepCoverage, IsLastRevoking, Leaves, Widens};
 ghost use Rattle.history_core.specs.Showing.{PartView, Shows, answers_of, said};
 ghost use Rattle.history_core.specs.Publishing.{IsExactOnGroups, part_of};
 ghost use Rattle.history_core.specs.Beginnings.{sees};
-ghost use Rattle.history_core.specs.Bases.{kept_by, base_with, base_head, releases_without, is_lasting_by, base_at};
+ghost use Rattle.history_core.specs.Bases.{kept_by, base_with, base_head, releases_cut, is_lasting_by, base_at};
 ghost use Rattle.history_core.specs.Example.{certificate, second_job, after_first};
 
 /// The facts hold of no release, and each job that isn't refused keeps them, from any state in which they hold
@@ -102,36 +103,34 @@ pub fn base_stands_for_its_history()
         → said (answers_of x (s ∷ ss) parts) ≡ said (answers_of x (s ∷ ss) (part ∷ [])) }
 {}
 
-/// The releases of a history without some issuers are sound (`sound`), and their ledger is that of the history without
-/// these issuers (`ledger`), so that what holds of the base of a history holds of a base without issuers. They have the
-/// head, and of what was accepted all of other issuers; and of an identity of another issuer they know what the history
-/// does: its accepted sightings, its date, whether it is listed, and whether a base keeps it. Without no issuer, they are
-/// the history's (`none`).
-pub fn issuers_are_left_out()
-    ensures sound { (without : List (List ℕ)) (rs : List Release) → IsSound rs → IsSound (releases_without without rs) }
-    ensures ledger { (without : List (List ℕ)) (rs : List Release)
-        → ledger_without without (ledger_of rs) ≡ ledger_of (releases_without without rs) }
-    ensures head { (without : List (List ℕ)) (rs : List Release) → base_head (releases_without without rs) ≡ base_head rs }
-    ensures accepted { (without : List (List ℕ)) (rs : List Release)
-        → accepted_by [] (releases_without without rs) ≡ filter (λ x. is_other without x.issuer) (accepted_by [] rs) }
-    ensures sightings { (without : List (List ℕ)) (rs : List Release) (x : Identity) → has_key without x.issuer ≡ false
-        → sightings x (seen (releases_without without rs)) ≡ sightings x (seen rs) }
-    ensures date { (without : List (List ℕ)) (rs : List Release) (x : Identity) → has_key without x.issuer ≡ false
-        → until x (releases_without without rs) ≡ until x rs }
-    ensures listing { (without : List (List ℕ)) (rs : List Release) (x : Identity) → has_key without x.issuer ≡ false
-        → is_listed (releases_without without rs) x ≡ is_listed rs x }
-    ensures kept { (moment : ℕ) (without : List (List ℕ)) (rs : List Release) (x : Identity) → has_key without x.issuer ≡ false
-        → has (kept_by (is_lasting_by moment (releases_without without rs)) (releases_without without rs)) x
+/// The releases of a history, cut, are sound (`sound`), and their ledger is that of the history, cut (`ledger`), so that
+/// what holds of the base of a history holds of a base of what a cut keeps. They have the head, and of what was accepted
+/// all that is kept; and of an identity that is kept they know what the history does: its accepted sightings, its date,
+/// whether it is listed, and whether a base keeps it. Where everything is kept, they are the history's (`all`).
+pub fn releases_are_cut()
+    ensures sound { (cut : Cut) (rs : List Release) → IsSound rs → IsSound (releases_cut cut rs) }
+    ensures ledger { (cut : Cut) (rs : List Release) → ledger_cut cut (ledger_of rs) ≡ ledger_of (releases_cut cut rs) }
+    ensures head { (cut : Cut) (rs : List Release) → base_head (releases_cut cut rs) ≡ base_head rs }
+    ensures accepted { (cut : Cut) (rs : List Release)
+        → accepted_by [] (releases_cut cut rs) ≡ filter (is_kept cut) (accepted_by [] rs) }
+    ensures sightings { (cut : Cut) (rs : List Release) (x : Identity) → is_kept cut x ≡ true
+        → sightings x (seen (releases_cut cut rs)) ≡ sightings x (seen rs) }
+    ensures date { (cut : Cut) (rs : List Release) (x : Identity) → is_kept cut x ≡ true
+        → until x (releases_cut cut rs) ≡ until x rs }
+    ensures listing { (cut : Cut) (rs : List Release) (x : Identity) → is_kept cut x ≡ true
+        → is_listed (releases_cut cut rs) x ≡ is_listed rs x }
+    ensures kept { (moment : ℕ) (cut : Cut) (rs : List Release) (x : Identity) → is_kept cut x ≡ true
+        → has (kept_by (is_lasting_by moment (releases_cut cut rs)) (releases_cut cut rs)) x
         ≡ has (kept_by (is_lasting_by moment rs) rs) x }
-    ensures none { (rs : List Release) → releases_without [] rs ≡ rs }
+    ensures all { (rs : List Release) → releases_cut everything rs ≡ rs }
 {}
 
-/// An issuer that was left out can come back. The base without it doesn't enroll it (`unenrolled`). While no release
+/// An issuer that a cut leaves out can come back. The base without it doesn't enroll it (`unenrolled`). While no release
 /// does, none of its entries is late, whatever the releases cover and whatever was accepted before the base (`timely`);
 /// so the first job that enrolls it accepts each of its entries that the job covers (`accepted`).
 pub fn left_out_issuers_come_back()
-    ensures unenrolled { (keeps : Identity → Bool) (without : List (List ℕ)) (rs : List Release) (trailer issuer : List ℕ)
-        → has_key without issuer ≡ true → has_key (base_with keeps (releases_without without rs) trailer).issuers issuer ≡ false }
+    ensures unenrolled { (keeps : Identity → Bool) (cut : Cut) (rs : List Release) (trailer issuer : List ℕ)
+        → cut.takes issuer ≡ false → has_key (base_with keeps (releases_cut cut rs) trailer).issuers issuer ≡ false }
     ensures timely { (rs : List Release) (x : Identity) (s : Sighting)
         → ((r : Release) → Among rs r → has_key r.issuers x.issuer ≡ false) → comes_late_behind rs x s ≡ false }
     ensures accepted { (rs : List Release) (job : JobFacts) (trailer : List ℕ) (e : Entry)

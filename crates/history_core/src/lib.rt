@@ -5,6 +5,6 @@ mod laws;
 
 pub use laws::{
     answers_are_the_truth, base_stands_for_its_history, facts_hold, first_job_in_words,
-    first_job_is_sound, issuers_are_left_out, last_part_covers, ledger_step_is_the_historys,
-    left_out_issuers_come_back, rebase_makes_the_base, two_jobs_computed, words_hold,
+    first_job_is_sound, last_part_covers, ledger_step_is_the_historys, left_out_issuers_come_back,
+    rebase_makes_the_base, releases_are_cut, two_jobs_computed, words_hold,
 };

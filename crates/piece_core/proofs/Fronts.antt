@@ -13,7 +13,7 @@ use Rattle.gather_core.specs.Raw.{raw_job, contents_in, entries_in}
 use Rattle.gather_core.proofs.Records.{Fits, AllFit, pass-fits, same_texts, texts-more, texts-few, fits-more, entries-more}
 use Rattle.gather_core.proofs.Reread.{read-job, spelled}
 use Rattle.piece_core.specs.declared.cutting.Pieces.{Pieces}
-use Rattle.piece_core.specs.Cuts.{at_place}
+use Rattle.place_core.specs.Cuts.{at_place}
 use Rattle.piece_core.specs.Texts.{text_at, has_part, part_at, IsLonger}
 use Rattle.piece_core.specs.Pieces.{AreOf}
 use Rattle.piece_core.proofs.Keeping.{keeps_item, kept, kept_more, cut_spelled}

@@ -29,7 +29,7 @@ use Rattle.gather_core.specs.Raw.{raw_job, raw_by, entries_in}
 use Rattle.gather_core.proofs.Records.{Fits}
 use Rattle.gather_core.proofs.Reading.{not-ended}
 use Rattle.piece_core.specs.declared.cutting.Pieces.{Pieces}
-use Rattle.piece_core.specs.Cuts.{at_place}
+use Rattle.place_core.specs.Cuts.{at_place}
 use Rattle.piece_core.specs.Texts.{text_at, has_part, IsLonger}
 use Rattle.piece_core.specs.Records.{crl_place, place_of_record}
 use Rattle.piece_core.specs.Pieces.{AreOf}

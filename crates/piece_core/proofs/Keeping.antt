@@ -15,7 +15,8 @@ use Rattle.job_core.proofs.JobReads.{spelling-is}
 use Rattle.job_core.proofs.Passing.{texts_of}
 use Rattle.gather_core.specs.Raw.{contents_in, ranges_in, crls_in, entries_in}
 use Rattle.gather_core.proofs.Sorting.{sorted}
-use Rattle.piece_core.specs.Cuts.{Cut, keeps_entry, kept_texts, cut_contents}
+use Rattle.place_core.specs.Cuts.{Cut}
+use Rattle.piece_core.specs.Cuts.{keeps_entry, kept_texts, cut_contents}
 
 -- ---- a filter behind a map
 

@@ -6,7 +6,8 @@ use Rattle.log_core.specs.declared.Entry.{Entry}
 use Rattle.place_core.specs.declared.place.By.{By}
 use Rattle.place_core.specs.declared.place.By.TheVariants as ways
 use Rattle.place_core.specs.Places.{issuer_place, place_in}
-use Rattle.piece_core.specs.Cuts.{is_kept, keeps_entry, entry_place, at_place}
+use Rattle.place_core.specs.Cuts.{is_kept, at_place}
+use Rattle.piece_core.specs.Cuts.{keeps_entry, entry_place}
 
 and_true : (b : Bool) → (b && true) ≡ b
 and_true true = refl

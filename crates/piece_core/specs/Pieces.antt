@@ -3,7 +3,8 @@ use Rattle.std.specs.Prelude.{◌≡◌, ℕ, ◌<◌, length}
 use Rattle.job_core.specs.JobText.{JobContents, spelling}
 use Rattle.place_core.specs.declared.place.By.{By}
 use Rattle.piece_core.specs.declared.cutting.Pieces.{Pieces}
-use Rattle.piece_core.specs.Cuts.{at_place, cut_contents}
+use Rattle.place_core.specs.Cuts.{at_place}
+use Rattle.piece_core.specs.Cuts.{cut_contents}
 use Rattle.piece_core.specs.Texts.{text_at}
 
 -- each place's text is that of the job, cut to the place; and the job has so many entries and bytes

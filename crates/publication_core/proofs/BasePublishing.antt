@@ -11,10 +11,11 @@ use Rattle.part_text.specs.SealedFields.{SealedFields}
 use Rattle.ledger_core.specs.declared.fields.LedgerItem.{LedgerItem}
 use Rattle.ledger_core.specs.LedgerFields.{LedgerPartFields, LedgerFields, IsLedger, ids, sealed_with}
 use Rattle.ident_core.proofs.Sets.{key_set_ascends}
+use Rattle.place_core.specs.Cuts.{Cut}
 use Rattle.universe_core.specs.declared.admitted.Group.{Group}
 use Rattle.universe_core.specs.Formats.{dated}
 use Rattle.universe_core.specs.Groups.{GroupFields, group_fields}
-use Rattle.universe_core.specs.Rebases.{ledger_without, count_left, is_lasting, issuers_in, kept, kept_revoked, count_pruned, group_among, rebased_head, rebased_groups, rebased_item, rebased_ledger}
+use Rattle.universe_core.specs.Rebases.{ledger_cut, count_left, is_lasting, issuers_in, kept, kept_revoked, count_pruned, group_among, rebased_head, rebased_groups, rebased_item, rebased_ledger}
 use Rattle.publication_core.proofs.Kept.{lasts_rebased}
 use Rattle.builder_core.specs.Building.{AreGroupBlocks, issuers_of, identities_in}
 use Rattle.builder_core.proofs.Admitted.{issuers_among, identities_among}
@@ -58,21 +59,21 @@ revoked_is keeps ledger =
 
 -- ---- what is built
 
-pub base_publishes : (ledger : LedgerFields) (moment : ℕ) (without : List (List ℕ)) (head : HeadFields) (groups : List Group) (next new : LedgerFields) (sealed : SealedFields)
-    (counts : BaseCounts) (p : BasePublicationFields) → length (issuers_in (ledger_without without ledger).parts) ≤ 65535 → head ≡ rebased_head (ledger_without without ledger).parts
-    → map group_fields groups ≡ rebased_groups (is_lasting moment) (ledger_without without ledger)
-    → ((trailer : List ℕ) → sealed_with next trailer ≡ rebased_ledger (is_lasting moment) (ledger_without without ledger) trailer)
+pub base_publishes : (ledger : LedgerFields) (moment : ℕ) (cut : Cut) (head : HeadFields) (groups : List Group) (next new : LedgerFields) (sealed : SealedFields)
+    (counts : BaseCounts) (p : BasePublicationFields) → length (issuers_in (ledger_cut cut ledger).parts) ≤ 65535 → head ≡ rebased_head (ledger_cut cut ledger).parts
+    → map group_fields groups ≡ rebased_groups (is_lasting moment) (ledger_cut cut ledger)
+    → ((trailer : List ℕ) → sealed_with next trailer ≡ rebased_ledger (is_lasting moment) (ledger_cut cut ledger) trailer)
     → IsSealedPart dated head (map group_fields groups) sealed × (new ≡ sealed_with next sealed.trailer) → counts.issuers ≡ length groups → counts.universe ≡ length new.items
-    → counts.revoked ≡ length (filter (λ i. is_some i.last) new.items) → counts.pruned ≡ count_pruned (is_lasting moment) (ledger_without without ledger)
-    → counts.left ≡ count_left without ledger → p ≡ record { sealed = sealed; ledger = new; counts = counts } → PublishesBase ledger moment without (Ok p)
-base_publishes ledger moment without head groups next new sealed counts p few head_is is seals (built, ledger_is) issuers universe revoked pruned left made_is =
-    let rest : LedgerFields = ledger_without without ledger in
+    → counts.revoked ≡ length (filter (λ i. is_some i.last) new.items) → counts.pruned ≡ count_pruned (is_lasting moment) (ledger_cut cut ledger)
+    → counts.left ≡ count_left cut ledger → p ≡ record { sealed = sealed; ledger = new; counts = counts } → PublishesBase ledger moment cut (Ok p)
+base_publishes ledger moment cut head groups next new sealed counts p few head_is is seals (built, ledger_is) issuers universe revoked pruned left made_is =
+    let rest : LedgerFields = ledger_cut cut ledger in
     let made : new ≡ rebased_ledger (is_lasting moment) rest sealed.trailer = ledger_is ∙ seals sealed.trailer in
     let many : counts.issuers ≡ length (issuers_in rest.parts) = issuers ∙ sym (length-map groups group_fields) ∙ base_many (is_lasting moment) rest (map group_fields groups) is in
     let held : counts.universe ≡ length (kept (is_lasting moment) rest) = universe ∙ ap (λ (l : LedgerFields). length l.items) made ∙ length-map (kept (is_lasting moment) rest) rebased_item in
     let listed : counts.revoked ≡ length (kept_revoked (is_lasting moment) rest)
     = revoked ∙ ap (λ (l : LedgerFields). length (filter (λ (i : LedgerItem). is_some i.last) l.items)) made ∙ revoked_is (is_lasting moment) rest in
-    subst (λ (q : BasePublicationFields). PublishesBase ledger moment without (Ok q)) (sym made_is) (
+    subst (λ (q : BasePublicationFields). PublishesBase ledger moment cut (Ok q)) (sym made_is) (
       few,
       record {
         head_is = built.head_is ∙ head_is;

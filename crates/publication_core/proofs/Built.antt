@@ -16,19 +16,19 @@ use Rattle.ident_core.specs.declared.kind.Kind.TheVariants as kinds
 use Rattle.ident_core.specs.HeadFields.{zero_key}
 use Rattle.ledger_core.specs.LedgerFields.{LedgerPartFields, LedgerFields, IsLedger, IsItemOf, ids, newest, sealed_with}
 use Rattle.ledger_core.specs.declared.fields.LedgerItem.{LedgerItem}
-use Rattle.ident_core.specs.Sets.{has_key}
+use Rattle.place_core.specs.Cuts.{Cut}
 use Rattle.universe_core.specs.Groups.{GroupFields, IsGroup}
 use Rattle.universe_core.specs.History.{Release}
 use Rattle.universe_core.specs.Members.{first_part}
-use Rattle.universe_core.specs.Rebases.{is_of_other, ledger_without, count_left, kept, count_pruned, group_among, issuers_in, epoch_by, ranges_by, rebased_item, rebased_head, rebased_groups, rebased_ledger}
+use Rattle.universe_core.specs.Rebases.{is_kept_item, ledger_cut, count_left, kept, count_pruned, group_among, issuers_in, epoch_by, ranges_by, rebased_item, rebased_head, rebased_groups, rebased_ledger}
 use Rattle.universe_core.proofs.Beginning.{every, group_facts}
 use Rattle.publication_core.proofs.Kept.{sorted_kept, ids_rebased, lasts_rebased}
-use Rattle.publication_core.proofs.Without.{kept_without, left_and_others, head_without}
+use Rattle.publication_core.proofs.Cuts.{kept_cut, left_and_others, head_cut}
 
--- the kept items of the ledger without some issuers, as a slice shows its items
-pub kept_of : (w : List (List ℕ)) (keeps : LedgerItem → Bool) (ledger : LedgerFields) (seen items : List LedgerItem) → seen ≡ ledger.items
-    → items ≡ map rebased_item (filter (λ i. keeps i && is_of_other w i) seen) → items ≡ map rebased_item (kept keeps (ledger_without w ledger))
-kept_of w keeps ledger seen items s e = e ∙ ap (λ is. map rebased_item (filter (λ i. keeps i && is_of_other w i) is)) s ∙ ap (map rebased_item) (kept_without w keeps ledger)
+-- the kept items of the ledger, cut, as a slice shows its items
+pub kept_of : (cut : Cut) (keeps : LedgerItem → Bool) (ledger : LedgerFields) (seen items : List LedgerItem) → seen ≡ ledger.items
+    → items ≡ map rebased_item (filter (λ i. keeps i && is_kept_item cut i) seen) → items ≡ map rebased_item (kept keeps (ledger_cut cut ledger))
+kept_of cut keeps ledger seen items s e = e ∙ ap (λ is. map rebased_item (filter (λ i. keeps i && is_kept_item cut i) is)) s ∙ ap (map rebased_item) (kept_cut cut keeps ledger)
 
 -- ---- how many are pruned
 
@@ -45,24 +45,24 @@ pruned_is keeps ledger n m e f =
     )
 
 -- the items that are neither kept nor left out
-pub each_item : (w : List (List ℕ)) (keeps : LedgerItem → Bool) (ledger : LedgerFields)
-    → length (kept keeps (ledger_without w ledger)) + count_pruned keeps (ledger_without w ledger) + count_left w ledger ≡ length ledger.items
-each_item w keeps ledger =
+pub each_item : (cut : Cut) (keeps : LedgerItem → Bool) (ledger : LedgerFields)
+    → length (kept keeps (ledger_cut cut ledger)) + count_pruned keeps (ledger_cut cut ledger) + count_left cut ledger ≡ length ledger.items
+each_item cut keeps ledger =
     omega (
       arith,
-      pruned_is keeps (ledger_without w ledger) (length (ledger_without w ledger).items) (length (map rebased_item (kept keeps (ledger_without w ledger)))) refl refl,
-      length-map (kept keeps (ledger_without w ledger)) rebased_item,
-      left_and_others w ledger,
+      pruned_is keeps (ledger_cut cut ledger) (length (ledger_cut cut ledger).items) (length (map rebased_item (kept keeps (ledger_cut cut ledger)))) refl refl,
+      length-map (kept keeps (ledger_cut cut ledger)) rebased_item,
+      left_and_others cut ledger,
     )
 
 -- the same of a slice of the items, and of the kept ones as they are renewed
-pub counted : (w : List (List ℕ)) (keeps : LedgerItem → Bool) (ledger : LedgerFields) (seen also items : List LedgerItem) (left : ℕ) → seen ≡ ledger.items → also ≡ ledger.items
-    → items ≡ map rebased_item (kept keeps (ledger_without w ledger)) → left ≡ count_by (λ i. has_key w i.id.issuer) also
-    → (left ≡ count_left w ledger) × (length items + count_pruned keeps (ledger_without w ledger) + left ≡ length seen)
-counted w keeps ledger seen also items left s t i e =
-    let l : left ≡ count_left w ledger = e ∙ ap (count_by (λ (x : LedgerItem). has_key w x.id.issuer)) t in (
+pub counted : (cut : Cut) (keeps : LedgerItem → Bool) (ledger : LedgerFields) (seen also items : List LedgerItem) (left : ℕ) → seen ≡ ledger.items → also ≡ ledger.items
+    → items ≡ map rebased_item (kept keeps (ledger_cut cut ledger)) → left ≡ count_by (λ i. not (is_kept_item cut i)) also
+    → (left ≡ count_left cut ledger) × (length items + count_pruned keeps (ledger_cut cut ledger) + left ≡ length seen)
+counted cut keeps ledger seen also items left s t i e =
+    let l : left ≡ count_left cut ledger = e ∙ ap (count_by (λ (x : LedgerItem). not (is_kept_item cut x))) t in (
       l,
-      omega (arith, l, ap length s, ap length i, length-map (kept keeps (ledger_without w ledger)) rebased_item, each_item w keeps ledger),
+      omega (arith, l, ap length s, ap length i, length-map (kept keeps (ledger_cut cut ledger)) rebased_item, each_item cut keeps ledger),
     )
 
 -- ---- the groups
@@ -110,18 +110,18 @@ is_ledger keeps ledger epoch ranges issuers items h r few a i = record {
       (every (λ x. IsItemOf 1 (rebased_item x)) (kept keeps ledger) (λ x. record { birth = omega arith; last = last_fits x.last })));
 }
 
--- the head, and the ledger but for the trailer of its part, are those of the ledger without some issuers
+-- the head, and the ledger but for the trailer of its part, are those of the ledger, cut
 
-pub head_is : (w : List (List ℕ)) (ledger : LedgerFields) (p : LedgerPartFields) → newest ledger.parts ≡ Some p → rebased_head (p ∷ []) ≡ rebased_head (ledger_without w ledger).parts
-head_is w ledger p e =
-    (λ i. record { kind = kinds.Snapshot; epoch = epoch_by (sym e i); parent = zero_key; ranges = ranges_by (sym e i) }) ∙ sym (head_without w ledger)
+pub head_is : (cut : Cut) (ledger : LedgerFields) (p : LedgerPartFields) → newest ledger.parts ≡ Some p → rebased_head (p ∷ []) ≡ rebased_head (ledger_cut cut ledger).parts
+head_is cut ledger p e =
+    (λ i. record { kind = kinds.Snapshot; epoch = epoch_by (sym e i); parent = zero_key; ranges = ranges_by (sym e i) }) ∙ sym (head_cut cut ledger)
 
-pub next_is : (w : List (List ℕ)) (keeps : LedgerItem → Bool) (ledger : LedgerFields) (p made : LedgerPartFields) (issuers : List (List ℕ)) (items : List LedgerItem) (next : LedgerFields)
-    → newest ledger.parts ≡ Some p → made ≡ first_part p.epoch p.ranges issuers → issuers ≡ issuers_in (ledger_without w ledger).parts
-    → items ≡ map rebased_item (kept keeps (ledger_without w ledger)) → next ≡ record { parts = made ∷ []; items = items }
-    → (trailer : List ℕ) → sealed_with next trailer ≡ rebased_ledger keeps (ledger_without w ledger) trailer
-next_is w keeps ledger p made issuers items next e part_is issuers_are items_are is trailer =
-    let head : rebased_head (p ∷ []) ≡ rebased_head (ledger_without w ledger).parts = head_is w ledger p e in
+pub next_is : (cut : Cut) (keeps : LedgerItem → Bool) (ledger : LedgerFields) (p made : LedgerPartFields) (issuers : List (List ℕ)) (items : List LedgerItem) (next : LedgerFields)
+    → newest ledger.parts ≡ Some p → made ≡ first_part p.epoch p.ranges issuers → issuers ≡ issuers_in (ledger_cut cut ledger).parts
+    → items ≡ map rebased_item (kept keeps (ledger_cut cut ledger)) → next ≡ record { parts = made ∷ []; items = items }
+    → (trailer : List ℕ) → sealed_with next trailer ≡ rebased_ledger keeps (ledger_cut cut ledger) trailer
+next_is cut keeps ledger p made issuers items next e part_is issuers_are items_are is trailer =
+    let head : rebased_head (p ∷ []) ≡ rebased_head (ledger_cut cut ledger).parts = head_is cut ledger p e in
     ap (λ (l : LedgerFields). sealed_with l trailer) is
     ∙ ap (λ (q : LedgerPartFields). sealed_with (record { parts = q ∷ []; items = items }) trailer) part_is
     ∙ (λ i. record {

@@ -17,7 +17,7 @@ use Rattle.universe_core.specs.Formats.{JobIn}
 use Rattle.universe_core.specs.History.{Release}
 use Rattle.universe_core.specs.Ledgers.{part_from}
 use Rattle.universe_core.specs.Step.{kind_by, parent_by}
-use Rattle.history_core.specs.Bases.{base_with, releases_without, base_at}
+use Rattle.history_core.specs.Bases.{base_with, releases_cut, base_at}
 use Rattle.store_core.specs.Chain.{Follows, IsChain}
 use Rattle.publication_core.specs.Histories.{newest_of, GoesOn, IsAdmissible, IsPartOf, IsBasePart, release_of, AreAdmissible, History, of_jobs, rebased, IsHistory, releases_of}
 use Rattle.publication_core.proofs.Ledgers.{history_base_fits}
@@ -89,10 +89,10 @@ history_chain (of_jobs (job ∷ jobs)) [] h = absurd h
 history_chain (of_jobs (job ∷ jobs)) (s ∷ parts) h =
     let made : Release = release_of [] job s in
     (ap (λ (h : HeadFields). h.kind) h.1.head_is, linked_after (made ∷ []) made s jobs parts refl (release_matches [] job s h.1) h.2)
-history_chain (rebased b old moment without jobs) [] h = absurd h
-history_chain (rebased b old moment without jobs) (s ∷ parts) h =
-    let base : Release = base_at moment (releases_without without (releases_of b old)) s.trailer in
-    (ap (λ (h : HeadFields). h.kind) h.2.head_is, linked_after (base ∷ []) base s jobs parts refl (base_matches moment (releases_without without (releases_of b old)) s h.2) h.3)
+history_chain (rebased b old moment cut jobs) [] h = absurd h
+history_chain (rebased b old moment cut jobs) (s ∷ parts) h =
+    let base : Release = base_at moment (releases_cut cut (releases_of b old)) s.trailer in
+    (ap (λ (h : HeadFields). h.kind) h.2.head_is, linked_after (base ∷ []) base s jobs parts refl (base_matches moment (releases_cut cut (releases_of b old)) s h.2) h.3)
 
 -- ---- how many parts there are
 
@@ -107,8 +107,8 @@ few_after rs (job ∷ jobs) (s ∷ parts) few h =
 
 pub history_few : (h : History) (parts : List SealedFields) → IsHistory h parts → length parts ≤ 64
 history_few (of_jobs jobs) parts h = omega (arith, few_after [] jobs parts (omega arith) h)
-history_few (rebased b old moment without jobs) [] h = absurd h
-history_few (rebased b old moment without jobs) (s ∷ parts) h = omega (arith, few_after (base_at moment (releases_without without (releases_of b old)) s.trailer ∷ []) jobs parts (omega arith) h.3)
+history_few (rebased b old moment cut jobs) [] h = absurd h
+history_few (rebased b old moment cut jobs) (s ∷ parts) h = omega (arith, few_after (base_at moment (releases_cut cut (releases_of b old)) s.trailer ∷ []) jobs parts (omega arith) h.3)
 
 -- ---- the texts
 
@@ -133,8 +133,8 @@ texts_after rs (job ∷ jobs) (s ∷ parts) digest h =
 
 pub history_texts : (h : History) (parts : List SealedFields) → IsHistory h parts → All Fits parts
 history_texts (of_jobs jobs) parts h = texts_after [] jobs parts tt h
-history_texts (rebased b old moment without jobs) [] h = absurd h
-history_texts (rebased b old moment without jobs) (s ∷ parts) h =
-    let rs : List Release = releases_without without (releases_of b old) in
-    All-cons Fits s parts (base_has_text moment rs s h.2 (history_base_fits b old moment without s h.0 h.1 h.2))
+history_texts (rebased b old moment cut jobs) [] h = absurd h
+history_texts (rebased b old moment cut jobs) (s ∷ parts) h =
+    let rs : List Release = releases_cut cut (releases_of b old) in
+    All-cons Fits s parts (base_has_text moment rs s h.2 (history_base_fits b old moment cut s h.0 h.1 h.2))
     (texts_after (base_at moment rs s.trailer ∷ []) jobs parts (base_digest moment rs s h.2) h.3)

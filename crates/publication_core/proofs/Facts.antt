@@ -11,12 +11,13 @@ use Rattle.part_text.specs.SealedFields.{SealedFields}
 use Rattle.ident_core.specs.Among.{Among}
 use Rattle.ident_core.specs.Sets.{has, has_key}
 use Rattle.ident_core.proofs.Elements.{some_item}
+use Rattle.place_core.specs.Cuts.{Cut}
 use Rattle.universe_core.specs.Jobs.{JobFacts, enrolled, is_enrolled, lists}
 use Rattle.universe_core.specs.Formats.{JobIn, facts_in}
 use Rattle.universe_core.specs.History.{Release, past_of, seen, sightings, birth, is_listed}
 use Rattle.universe_core.specs.Ledgers.{last}
 use Rattle.universe_core.proofs.Enrolled.{enrolled_test}
-use Rattle.history_core.specs.Bases.{kept_by, is_lasting_by, releases_without, base_at}
+use Rattle.history_core.specs.Bases.{kept_by, is_lasting_by, releases_cut, base_at}
 use Rattle.history_core.specs.Facts.{Leaves, Widens}
 use Rattle.history_core.specs.Showing.{Shows}
 use Rattle.history_core.proofs.Kept.{base_lists}
@@ -100,12 +101,12 @@ listed_after moment rs trailer jobs parts x h widens =
     ∙ ap (λ b. b || list_any says (drop born (map facts_in jobs))) (base_lists (is_lasting_by moment rs) rs trailer x)
     ∙ ap (λ b. (has (kept_by (is_lasting_by moment rs) rs) x && is_listed rs x) || b) (ap (list_any says) (drop-map facts_in born jobs) ∙ any_lists x (drop born jobs))
 
-pub listed_behind_base : (h : History) (old : List SealedFields) (moment : ℕ) (without : List (List ℕ)) (jobs : List JobIn) (parts : List SealedFields) (x : Identity)
-    → IsHistory (rebased h old moment without jobs) parts
-    → is_listed (releases_of (rebased h old moment without jobs) parts) x
-    ≡ ((has (kept_by (is_lasting_by moment (releases_without without (releases_of h old))) (releases_without without (releases_of h old))) x
-    && is_listed (releases_without without (releases_of h old)) x)
-    || list_any (λ j. lists (facts_in j) x && is_enrolled (facts_in j) x.issuer) (drop (birth x (drop 1 (releases_of (rebased h old moment without jobs) parts))) jobs))
-listed_behind_base h old moment without jobs [] x is = absurd is
-listed_behind_base h old moment without jobs (s ∷ parts) x is =
-    listed_after moment (releases_without without (releases_of h old)) s.trailer jobs parts x is.3 (history_sound (rebased h old moment without jobs) (s ∷ parts) is).widens
+pub listed_behind_base : (h : History) (old : List SealedFields) (moment : ℕ) (cut : Cut) (jobs : List JobIn) (parts : List SealedFields) (x : Identity)
+    → IsHistory (rebased h old moment cut jobs) parts
+    → is_listed (releases_of (rebased h old moment cut jobs) parts) x
+    ≡ ((has (kept_by (is_lasting_by moment (releases_cut cut (releases_of h old))) (releases_cut cut (releases_of h old))) x
+    && is_listed (releases_cut cut (releases_of h old)) x)
+    || list_any (λ j. lists (facts_in j) x && is_enrolled (facts_in j) x.issuer) (drop (birth x (drop 1 (releases_of (rebased h old moment cut jobs) parts))) jobs))
+listed_behind_base h old moment cut jobs [] x is = absurd is
+listed_behind_base h old moment cut jobs (s ∷ parts) x is =
+    listed_after moment (releases_cut cut (releases_of h old)) s.trailer jobs parts x is.3 (history_sound (rebased h old moment cut jobs) (s ∷ parts) is).widens

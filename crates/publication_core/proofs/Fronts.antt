@@ -3,7 +3,7 @@ use Rattle.std.proofs.Common.{List, [], ◌∷◌, ◌++◌, subst}
 use Rattle.part_text.specs.SealedFields.{SealedFields}
 use Rattle.universe_core.specs.Formats.{JobIn}
 use Rattle.universe_core.specs.History.{Release}
-use Rattle.history_core.specs.Bases.{releases_without, base_at}
+use Rattle.history_core.specs.Bases.{releases_cut, base_at}
 use Rattle.publication_core.specs.Histories.{IsAdmissible, release_of, releases_after, AreAdmissible, History, of_jobs, rebased, with_job, with_jobs, IsHistory, releases_of}
 use Rattle.publication_core.proofs.Unique.{history_unique}
 
@@ -17,9 +17,9 @@ peel_after rs (k ∷ jobs) j (s ∷ all) h = let r = peel_after (rs ++ release_o
 
 peel : (h : History) (j : JobIn) (all : List SealedFields) → IsHistory (with_job h j) all → (parts : List SealedFields) × IsHistory h parts × IsAdmissible (releases_of h parts) j
 peel (of_jobs jobs) j all is = peel_after [] jobs j all is
-peel (rebased h old moment without jobs) j [] is = absurd is
-peel (rebased h old moment without jobs) j (s ∷ all) is =
-    let r = peel_after (base_at moment (releases_without without (releases_of h old)) s.trailer ∷ []) jobs j all is.3 in (s ∷ r.0, (is.0, is.1, is.2, r.1), r.2)
+peel (rebased h old moment cut jobs) j [] is = absurd is
+peel (rebased h old moment cut jobs) j (s ∷ all) is =
+    let r = peel_after (base_at moment (releases_cut cut (releases_of h old)) s.trailer ∷ []) jobs j all is.3 in (s ∷ r.0, (is.0, is.1, is.2, r.1), r.2)
 
 front : (others : List JobIn) (h : History) (all : List SealedFields) → IsHistory (with_jobs h others) all → (parts : List SealedFields) × IsHistory h parts
 front [] h all is = (all, is)

@@ -10,11 +10,11 @@ use Rattle.ident_core.proofs.Within.{within-iff}
 use Rattle.part_text.specs.SealedFields.{SealedFields}
 use Rattle.universe_core.specs.Formats.{JobIn, facts_in}
 use Rattle.universe_core.specs.History.{Release, lie_within}
-use Rattle.history_core.specs.Bases.{releases_without, base_at, is_lasting_by}
+use Rattle.history_core.specs.Bases.{releases_cut, base_at, is_lasting_by}
 use Rattle.history_core.specs.Facts.{KeepsCoverage, IsSound}
 use Rattle.history_core.proofs.Bases.{base_sound}
 use Rattle.history_core.proofs.Sound.{nothing_sound, keeps_sound}
-use Rattle.history_core.proofs.Without.{without_sound}
+use Rattle.history_core.proofs.Cuts.{cut_sound}
 use Rattle.publication_core.specs.Histories.{newest_of, GoesOn, IsAdmissible, IsPartOf, release_of, releases_after, AreAdmissible, History, of_jobs, rebased, members, with_job, IsHistory, releases_of}
 
 -- ---- one job more
@@ -86,32 +86,32 @@ base_at_sound moment rs s sound = base_sound (is_lasting_by moment rs) rs s.trai
 -- The facts hold after each history.
 pub history_sound : (h : History) (parts : List SealedFields) → IsHistory h parts → IsSound (releases_of h parts)
 history_sound (of_jobs jobs) parts is = after_sound [] jobs parts nothing_sound is
-history_sound (rebased h old moment without jobs) [] is = absurd is
-history_sound (rebased h old moment without jobs) (s ∷ parts) is =
-    after_sound (base_at moment (releases_without without (releases_of h old)) s.trailer ∷ []) jobs parts (base_at_sound moment (releases_without without (releases_of h old)) s (without_sound without (releases_of h old) (history_sound h old is.0))) is.3
+history_sound (rebased h old moment cut jobs) [] is = absurd is
+history_sound (rebased h old moment cut jobs) (s ∷ parts) is =
+    after_sound (base_at moment (releases_cut cut (releases_of h old)) s.trailer ∷ []) jobs parts (base_at_sound moment (releases_cut cut (releases_of h old)) s (cut_sound cut (releases_of h old) (history_sound h old is.0))) is.3
 
 -- ---- a history with a job more
 
 pub with_job_leaves : (h : History) (parts : List SealedFields) (j : JobIn) (s : SealedFields) → IsHistory h parts
     → releases_of (with_job h j) (parts ++ s ∷ []) ≡ releases_of h parts ++ release_of (releases_of h parts) j s ∷ []
 with_job_leaves (of_jobs jobs) parts j s is = history_push [] jobs parts j s is
-with_job_leaves (rebased h old moment without jobs) [] j s is = absurd is
-with_job_leaves (rebased h old moment without jobs) (p ∷ parts) j s is = history_push (base_at moment (releases_without without (releases_of h old)) p.trailer ∷ []) jobs parts j s is.3
+with_job_leaves (rebased h old moment cut jobs) [] j s is = absurd is
+with_job_leaves (rebased h old moment cut jobs) (p ∷ parts) j s is = history_push (base_at moment (releases_cut cut (releases_of h old)) p.trailer ∷ []) jobs parts j s is.3
 
 pub with_job_is : (h : History) (parts : List SealedFields) (j : JobIn) (s : SealedFields) → IsHistory h parts → IsAdmissible (releases_of h parts) j → IsPartOf (releases_of h parts) j s
     → IsHistory (with_job h j) (parts ++ s ∷ [])
 with_job_is (of_jobs jobs) parts j s is a p = admissible_push [] jobs parts j s is a p
-with_job_is (rebased h old moment without jobs) [] j s is a p = absurd is
-with_job_is (rebased h old moment without jobs) (q ∷ parts) j s is a p =
-    (is.0, is.1, is.2, admissible_push (base_at moment (releases_without without (releases_of h old)) q.trailer ∷ []) jobs parts j s is.3 a p)
+with_job_is (rebased h old moment cut jobs) [] j s is a p = absurd is
+with_job_is (rebased h old moment cut jobs) (q ∷ parts) j s is a p =
+    (is.0, is.1, is.2, admissible_push (base_at moment (releases_cut cut (releases_of h old)) q.trailer ∷ []) jobs parts j s is.3 a p)
 
 -- a member leaves one release, and publishes one part
 pub members_many : (h : History) (parts : List SealedFields) → IsHistory h parts → length (releases_of h parts) ≡ members h
 members_many (of_jobs jobs) parts is = omega (arith, history_length [] jobs parts is)
-members_many (rebased h old moment without jobs) [] is = absurd is
-members_many (rebased h old moment without jobs) (s ∷ parts) is = omega (arith, history_length (base_at moment (releases_without without (releases_of h old)) s.trailer ∷ []) jobs parts is.3)
+members_many (rebased h old moment cut jobs) [] is = absurd is
+members_many (rebased h old moment cut jobs) (s ∷ parts) is = omega (arith, history_length (base_at moment (releases_cut cut (releases_of h old)) s.trailer ∷ []) jobs parts is.3)
 
 pub parts_many : (h : History) (parts : List SealedFields) → IsHistory h parts → length parts ≡ members h
 parts_many (of_jobs jobs) parts is = parts_length [] jobs parts is
-parts_many (rebased h old moment without jobs) [] is = absurd is
-parts_many (rebased h old moment without jobs) (s ∷ parts) is = omega (arith, parts_length (base_at moment (releases_without without (releases_of h old)) s.trailer ∷ []) jobs parts is.3)
+parts_many (rebased h old moment cut jobs) [] is = absurd is
+parts_many (rebased h old moment cut jobs) (s ∷ parts) is = omega (arith, parts_length (base_at moment (releases_cut cut (releases_of h old)) s.trailer ∷ []) jobs parts is.3)

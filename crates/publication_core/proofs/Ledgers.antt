@@ -37,13 +37,14 @@ use Rattle.ident_core.specs.Sets.{has, key_set}
 use Rattle.ident_core.proofs.Elements.{Among-filter, Among-map, Among-filter_map, Among-cases, some_item}
 use Rattle.ident_core.proofs.Sets.{Among-from_has, has-from_Among, Among-from_key_set, key_set_ascends}
 use Rattle.ident_core.proofs.Canonical.{Contains-from_Among, all_from}
+use Rattle.place_core.specs.Cuts.{Cut}
 use Rattle.universe_core.specs.Jobs.{Crl, Entry, crl_by, accepted_crl, facts_of, is_stale, crls_of, enrolled}
 use Rattle.universe_core.specs.Formats.{JobIn, read_in}
 use Rattle.universe_core.specs.History.{Release, past_of, shown, accepted_with}
 use Rattle.universe_core.specs.Dates.{greatest, dates}
 use Rattle.universe_core.specs.Ledgers.{no_ledger, past_in, item_of, old_dates, next_item, part_after, next_ledger, part_from, ledger_of}
 use Rattle.universe_core.specs.Members.{first_part}
-use Rattle.universe_core.specs.Rebases.{is_other, is_of_other, part_without, ledger_without, is_lasting, issuers_in, kept, epoch_by, ranges_by, rebased_item, rebased_part, rebased_ledger}
+use Rattle.universe_core.specs.Rebases.{is_kept_item, part_cut, ledger_cut, is_lasting, issuers_in, kept, epoch_by, ranges_by, rebased_item, rebased_part, rebased_ledger}
 use Rattle.universe_core.specs.Step.{bad_crl_from, old_epoch, shrunk, chain_full, too_many, refusal}
 use Rattle.universe_core.specs.Following.{IsBefore, early}
 use Rattle.universe_core.specs.declared.fault.AdmitFault.{AdmitFault}
@@ -53,15 +54,15 @@ use Rattle.universe_core.proofs.Greatest.{greatest_is, greatest_keeps}
 use Rattle.universe_core.proofs.Members.{Among-dates}
 use Rattle.publication_core.proofs.Built.{is_ledger}
 use Rattle.publication_core.proofs.Parts.{newest_fits}
-use Rattle.publication_core.proofs.Without.{IsLedger-without}
-use Rattle.history_core.specs.Bases.{all_issuers, releases_without, base_at}
+use Rattle.publication_core.proofs.Cuts.{IsLedger-cut}
+use Rattle.history_core.specs.Bases.{all_issuers, releases_cut, base_at}
 use Rattle.history_core.specs.Facts.{IsSound}
 use Rattle.history_core.proofs.Accepting.{accepted_cases, shown_entry}
 use Rattle.history_core.proofs.BaseLedgers.{issuers_same, ledger_same}
 use Rattle.history_core.proofs.Beginnings.{ledger_of_none}
 use Rattle.history_core.proofs.Ledger as histories
 use Rattle.history_core.proofs.Sound.{nothing_sound}
-use Rattle.history_core.proofs.Without.{without_sound, ledger_without-of, many_without}
+use Rattle.history_core.proofs.Cuts.{cut_sound, ledger_cut-of, many_cut}
 use Rattle.publication_core.specs.Histories.{newest_of, IsAdmissible, IsPartOf, IsRebasable, IsBasePart, release_of, releases_after, AreAdmissible, History, of_jobs, rebased, members, IsHistory, releases_of}
 use Rattle.publication_core.specs.Histories.{ledger_bytes, old_ledger_bytes, IsUndated}
 use Rattle.publication_core.proofs.Reading.{fits_in, goes_on_in, none_dated, after_undated, items_undated}
@@ -308,51 +309,51 @@ few_issuers : (rs : List Release) → length (all_issuers rs) ≤ 65535 → leng
 unfolding ledger_of
 few_issuers rs few = subst (λ (ks : List (List ℕ)). length (key_set ks) ≤ 65535) (sym (issuers_same rs)) few
 
--- a ledger that fits does without some issuers
-without_fits : (w : List (List ℕ)) (l : LedgerFields) → Fits l → Fits (ledger_without w l)
-unfolding ledger_without
-without_fits w l fits = record {
-  facts = IsLedger-without w l fits.facts;
-  parts = All-map PartFits (part_without w) l.parts
-      (All-from_recursion (λ p. PartFits (part_without w p)) l.parts (all_from (λ p. PartFits (part_without w p)) l.parts
+-- a ledger that fits does so, cut
+cut_fits : (cut : Cut) (l : LedgerFields) → Fits l → Fits (ledger_cut cut l)
+unfolding ledger_cut
+cut_fits cut l fits = record {
+  facts = IsLedger-cut cut l fits.facts;
+  parts = All-map PartFits (part_cut cut) l.parts
+      (All-from_recursion (λ p. PartFits (part_cut cut p)) l.parts (all_from (λ p. PartFits (part_cut cut p)) l.parts
       (λ p a.
       let f : PartFits p = all_among PartFits l.parts p fits.parts a in
-      record { epoch = f.epoch; trailer = f.trailer; ranges = f.ranges; issuers = All-filter (is_other w) IsKey p.issuers f.issuers })));
-  items = All-filter (is_of_other w) ItemFits l.items fits.items;
+      record { epoch = f.epoch; trailer = f.trailer; ranges = f.ranges; issuers = All-filter cut.takes IsKey p.issuers f.issuers })));
+  items = All-filter (is_kept_item cut) ItemFits l.items fits.items;
 }
 
 -- the ledger of a base
-base_fits : (moment : ℕ) (w : List (List ℕ)) (old : List Release) (s : SealedFields) → IsSound old → FitsBefore (ledger_of old) → IsRebasable moment (releases_without w old)
-    → IsBasePart moment (releases_without w old) s → Fits (ledger_of (base_at moment (releases_without w old) s.trailer ∷ []))
-base_fits moment w old s sound kept can part =
-    let rs : List Release = releases_without w old in
+base_fits : (moment : ℕ) (cut : Cut) (old : List Release) (s : SealedFields) → IsSound old → FitsBefore (ledger_of old) → IsRebasable moment (releases_cut cut old)
+    → IsBasePart moment (releases_cut cut old) s → Fits (ledger_of (base_at moment (releases_cut cut old) s.trailer ∷ []))
+base_fits moment cut old s sound kept can part =
+    let rs : List Release = releases_cut cut old in
     let key : IsKey s.trailer = ap length part.trailer ∙ length-sha256 (unsealed_text s.part) in
-    let all : Fits (ledger_of old) = fits_of (ledger_of old) kept (omega (arith, releases_many old, many_without w old, can.some)) in
-    let fits : Fits (ledger_of rs) = subst Fits (ledger_without-of w old) (without_fits w (ledger_of old) all) in
-    subst Fits (ledger_same (is_lasting moment) rs s.trailer (without_sound w old sound))
+    let all : Fits (ledger_of old) = fits_of (ledger_of old) kept (omega (arith, releases_many old, many_cut cut old, can.some)) in
+    let fits : Fits (ledger_of rs) = subst Fits (ledger_cut-of cut old) (cut_fits cut (ledger_of old) all) in
+    subst Fits (ledger_same (is_lasting moment) rs s.trailer (cut_sound cut old sound))
     (rebased_fits (is_lasting moment) (ledger_of rs) s.trailer fits key (few_issuers rs can.few_issuers))
 
 history_fits : (h : History) (parts : List SealedFields) → IsHistory h parts → FitsBefore (ledger_of (releases_of h parts))
 history_fits (of_jobs jobs) parts is = after_fits [] jobs parts nothing_sound (subst FitsBefore (sym ledger_of_none) none_fits) is
-history_fits (rebased h old moment without jobs) [] is = absurd is
-history_fits (rebased h old moment without jobs) (s ∷ parts) is =
+history_fits (rebased h old moment cut jobs) [] is = absurd is
+history_fits (rebased h old moment cut jobs) (s ∷ parts) is =
     let rs : List Release = releases_of h old in
-    let rest : List Release = releases_without without rs in
+    let rest : List Release = releases_cut cut rs in
     let base : Release = base_at moment rest s.trailer in
     let sound : IsSound rs = history_sound h old is.0 in
-    after_fits (base ∷ []) jobs parts (base_at_sound moment rest s (without_sound without rs sound))
-    (fits_before (ledger_of (base ∷ [])) (base_fits moment without rs s sound (history_fits h old is.0) is.1 is.2)) is.3
+    after_fits (base ∷ []) jobs parts (base_at_sound moment rest s (cut_sound cut rs sound))
+    (fits_before (ledger_of (base ∷ [])) (base_fits moment cut rs s sound (history_fits h old is.0) is.1 is.2)) is.3
 
 -- The ledger of the base with which a history begins fits.
-pub history_base_fits : (h : History) (old : List SealedFields) (moment : ℕ) (without : List (List ℕ)) (s : SealedFields) → IsHistory h old
-    → IsRebasable moment (releases_without without (releases_of h old)) → IsBasePart moment (releases_without without (releases_of h old)) s
-    → Fits (ledger_of (base_at moment (releases_without without (releases_of h old)) s.trailer ∷ []))
-history_base_fits h old moment without s is can part = base_fits moment without (releases_of h old) s (history_sound h old is) (history_fits h old is) can part
+pub history_base_fits : (h : History) (old : List SealedFields) (moment : ℕ) (cut : Cut) (s : SealedFields) → IsHistory h old
+    → IsRebasable moment (releases_cut cut (releases_of h old)) → IsBasePart moment (releases_cut cut (releases_of h old)) s
+    → Fits (ledger_of (base_at moment (releases_cut cut (releases_of h old)) s.trailer ∷ []))
+history_base_fits h old moment cut s is can part = base_fits moment cut (releases_of h old) s (history_sound h old is) (history_fits h old is) can part
 
 -- where no job reads dates, the ledger has none
 undated_by : (h : History) (parts : List SealedFields) → IsUndated h → HasNoDates (ledger_of (releases_of h parts))
 undated_by (of_jobs jobs) parts none = items_undated (releases_after [] jobs parts) (after_undated [] jobs parts none none_dated)
-undated_by (rebased h old moment without jobs) parts none = absurd none
+undated_by (rebased h old moment cut jobs) parts none = absurd none
 
 module _ (h : History) (parts : List SealedFields) (is : IsHistory h parts) (some : 1 ≤ members h) where
   pub history_ledger_fits : Fits (ledger_of (releases_of h parts))

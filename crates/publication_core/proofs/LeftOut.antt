@@ -18,7 +18,7 @@ use Rattle.universe_core.specs.Formats.{JobIn, facts_in}
 use Rattle.universe_core.specs.Jobs.{Entry, is_enrolled}
 use Rattle.universe_core.specs.History.{Release, seen}
 use Rattle.universe_core.proofs.Enrolled.{enrolled_test}
-use Rattle.history_core.specs.Bases.{is_lasting_by, releases_without, base_at}
+use Rattle.history_core.specs.Bases.{is_lasting_by, releases_cut, base_at}
 use Rattle.history_core.specs.Showing.{Shows}
 use Rattle.history_core.proofs.Returning.{base_unenrolled, entry_seen}
 use Rattle.publication_core.specs.Histories.{release_of, releases_after, History, of_jobs, rebased, with_job, IsHistory, releases_of, LeavesOut}
@@ -42,12 +42,12 @@ after_unenrolled k rs (j ∷ jobs) (s ∷ parts) u n =
 
 no_release : (h : History) (parts : List SealedFields) (k : List ℕ) → IsHistory h parts → LeavesOut h k → Unenrolled k (releases_of h parts)
 no_release (of_jobs jobs) parts k is left = absurd left
-no_release (rebased h old moment without jobs) [] k is left = absurd is
-no_release (rebased h old moment without jobs) (s ∷ parts) k is left =
-    let rest : List Release = releases_without without (releases_of h old) in
+no_release (rebased h old moment cut jobs) [] k is left = absurd is
+no_release (rebased h old moment cut jobs) (s ∷ parts) k is left =
+    let rest : List Release = releases_cut cut (releases_of h old) in
     let base : Release = base_at moment rest s.trailer in
     after_unenrolled k (base ∷ []) jobs parts
-    (λ r a. ⊎_elim (λ e. subst (λ (z : Release). has_key z.issuers k ≡ false) e (base_unenrolled (is_lasting_by moment rest) without (releases_of h old) s.trailer k left.0)) (λ n. absurd n) a)
+    (λ r a. ⊎_elim (λ e. subst (λ (z : Release). has_key z.issuers k ≡ false) e (base_unenrolled (is_lasting_by moment rest) cut (releases_of h old) s.trailer k left.0)) (λ n. absurd n) a)
     left.1
 
 -- ---- what the parts say

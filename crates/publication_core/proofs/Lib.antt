@@ -18,7 +18,7 @@ pub mod BaseOutcomes
 pub mod BasePublishing
 pub mod LeftOut
 pub mod Kept
-pub mod Without
+pub mod Cuts
 pub mod Parts
 pub mod Built
 pub mod Adding

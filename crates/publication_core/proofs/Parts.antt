@@ -6,11 +6,11 @@ use Rattle.ident_core.specs.Coverage.{RangesFit}
 use Rattle.ledger_core.specs.LedgerFields.{LedgerPartFields, IsPartAfter, part_fields, newest}
 use Rattle.ledger_core.specs.declared.fields.LedgerPart.{LedgerPart}
 use Rattle.ident_core.proofs.Elements.{some_item}
-use Rattle.universe_core.specs.Rebases.{is_other}
+use Rattle.place_core.specs.Cuts.{Cut}
 
--- the issuers of each but for these, one part after the other
-abbrev pub issuers_each : List (List ℕ) → List LedgerPart → List (List ℕ)
-issuers_each without ps = flat_map (λ (p : LedgerPartFields). filter (is_other without) p.issuers) (map part_fields ps)
+-- the issuers of each that are taken, one part after the other
+abbrev pub issuers_each : Cut → List LedgerPart → List (List ℕ)
+issuers_each cut ps = flat_map (λ (p : LedgerPartFields). filter (cut.takes) p.issuers) (map part_fields ps)
 
 -- the last of the parts is the newest
 pub newest_at : (ps : List LedgerPart) (p : LedgerPart) (i : ℕ) → i + 1 ≡ length ps → p ≡ get_or ps i p → newest (map part_fields ps) ≡ Some (part_fields p)

@@ -16,7 +16,7 @@ use Rattle.universe_core.specs.History.{Release}
 use Rattle.universe_core.specs.Groups.{GroupFields}
 use Rattle.universe_core.specs.Ledgers.{next_ledger}
 use Rattle.universe_core.specs.Step.{refusal, groups_after}
-use Rattle.history_core.specs.Bases.{releases_without, base_at, base_head}
+use Rattle.history_core.specs.Bases.{releases_cut, base_at, base_head}
 use Rattle.builder_core.proofs.GroupBlocks.{blocks_unique}
 use Rattle.builder_core.proofs.FirstRefused.{refused_no_blocks, first_refused_once}
 use Rattle.publication_core.specs.declared.fault.PublishFault.{PublishFault}
@@ -52,10 +52,10 @@ after_unique rs (j ∷ jobs) (s ∷ a) (t ∷ b) x y =
 
 pub history_unique : (h : History) (a b : List SealedFields) → IsHistory h a → IsHistory h b → a ≡ b
 history_unique (of_jobs jobs) a b x y = after_unique [] jobs a b x y
-history_unique (rebased h old moment without jobs) [] b x y = absurd x
-history_unique (rebased h old moment without jobs) (s ∷ a) [] x y = absurd y
-history_unique (rebased h old moment without jobs) (s ∷ a) (t ∷ b) x y =
-    let rs : List Release = releases_without without (releases_of h old) in
+history_unique (rebased h old moment cut jobs) [] b x y = absurd x
+history_unique (rebased h old moment cut jobs) (s ∷ a) [] x y = absurd y
+history_unique (rebased h old moment cut jobs) (s ∷ a) (t ∷ b) x y =
+    let rs : List Release = releases_cut cut (releases_of h old) in
     let same : s ≡ t = base_unique moment rs s t x.2 y.2 in
     let rest : a ≡ b = after_unique (base_at moment rs s.trailer ∷ []) jobs a b x.3 (subst (λ z. AreAdmissible (base_at moment rs z.trailer ∷ []) jobs b) (sym same) y.3) in
     λ i. same i ∷ rest i

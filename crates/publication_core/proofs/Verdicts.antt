@@ -10,15 +10,16 @@ use Rattle.card_core.specs.PartFields.{PartFields}
 use Rattle.card_core.specs.Consulting.{consulted, covers_some}
 use Rattle.part_text.specs.SealedFields.{SealedFields}
 use Rattle.ident_core.specs.Among.{Among}
-use Rattle.ident_core.specs.Sets.{has, has_key}
+use Rattle.ident_core.specs.Sets.{has}
+use Rattle.place_core.specs.Cuts.{Cut, is_kept}
 use Rattle.universe_core.specs.Formats.{JobIn}
 use Rattle.universe_core.specs.History.{Release, seen, sightings}
-use Rattle.history_core.specs.Bases.{kept_by, is_lasting_by, releases_without, base_at}
+use Rattle.history_core.specs.Bases.{kept_by, is_lasting_by, releases_cut, base_at}
 use Rattle.history_core.specs.Facts.{IsSound}
 use Rattle.history_core.specs.Showing.{PartView, Shows, answers_of}
 use Rattle.history_core.proofs.Answers.{answers_are_truth}
 use Rattle.history_core.proofs.Kept.{sightings_kept, listed_kept}
-use Rattle.history_core.proofs.Without.{sightings_without, listed_without, kept_without}
+use Rattle.history_core.proofs.Cuts.{sightings_cut, listed_cut, kept_cut}
 use Rattle.history_core.proofs.Words.{zip_push}
 use Rattle.card_core.specs.declared.verdict.Verdict.TheVariants.{Good, Revoked}
 use Rattle.card_core.specs.Verdict.{covering, answers, by_answers, by_covering, verdict}
@@ -67,10 +68,10 @@ after_shown views rs (job ∷ jobs) (s ∷ parts) z h =
 
 pub parts_shown : (h : History) (parts : List SealedFields) → IsHistory h parts → AllZip Shows (map shown_by (map (λ t. t.part) parts)) (releases_of h parts)
 parts_shown (of_jobs jobs) parts is = after_shown [] [] jobs parts tt is
-parts_shown (rebased h old moment without jobs) [] is = absurd is
-parts_shown (rebased h old moment without jobs) (s ∷ parts) is =
-    after_shown (shown_by s.part ∷ []) (base_at moment (releases_without without (releases_of h old)) s.trailer ∷ []) jobs parts
-    (base_shows moment (releases_without without (releases_of h old)) s is.2, tt) is.3
+parts_shown (rebased h old moment cut jobs) [] is = absurd is
+parts_shown (rebased h old moment cut jobs) (s ∷ parts) is =
+    after_shown (shown_by s.part ∷ []) (base_at moment (releases_cut cut (releases_of h old)) s.trailer ∷ []) jobs parts
+    (base_shows moment (releases_cut cut (releases_of h old)) s is.2, tt) is.3
 
 -- The parts of a history answer its truth, asked with accepted sightings.
 pub history_verdict : (h : History) (parts : List SealedFields) (x : Identity) (ss : List Sighting) → IsHistory h parts → 1 ≤ length ss
@@ -80,15 +81,15 @@ history_verdict h parts x (s ∷ ss) is some asked =
     verdict_is_truth (map (λ t. t.part) parts) (releases_of h parts) x s ss (history_sound h parts is) (parts_shown h parts is) asked
 
 -- A rebase keeps the verdicts of what it keeps.
-pub base_verdict : (h : History) (parts : List SealedFields) (moment : ℕ) (without : List (List ℕ)) (s : SealedFields) (x : Identity) (ss : List Sighting)
-    → IsHistory (rebased h parts moment without []) (s ∷ []) → has (kept_by (is_lasting_by moment (releases_of h parts)) (releases_of h parts)) x ≡ true → has_key without x.issuer ≡ false
+pub base_verdict : (h : History) (parts : List SealedFields) (moment : ℕ) (cut : Cut) (s : SealedFields) (x : Identity) (ss : List Sighting)
+    → IsHistory (rebased h parts moment cut []) (s ∷ []) → has (kept_by (is_lasting_by moment (releases_of h parts)) (releases_of h parts)) x ≡ true → is_kept cut x ≡ true
     → 1 ≤ length ss → ((t : Sighting) → Among ss t → Among (sightings x (seen (releases_of h parts))) t) → verdict (map (λ t. t.part) parts) x ss ≡ verdict (s.part ∷ []) x ss
-base_verdict h parts moment without s x ss is kept other some asked =
+base_verdict h parts moment cut s x ss is kept other some asked =
     let old : List Release = releases_of h parts in
-    let rs : List Release = releases_without without old in
+    let rs : List Release = releases_cut cut old in
     let keeps : Identity → Bool = is_lasting_by moment rs in
-    let stays : has (kept_by keeps rs) x ≡ true = kept_without moment without old x other ∙ kept in
-    let same : sightings x (seen (base_at moment rs s.trailer ∷ [])) ≡ sightings x (seen old) = sightings_kept keeps rs s.trailer x stays ∙ sightings_without without old x other in
+    let stays : has (kept_by keeps rs) x ≡ true = kept_cut moment cut old x other ∙ kept in
+    let same : sightings x (seen (base_at moment rs s.trailer ∷ [])) ≡ sightings x (seen old) = sightings_kept keeps rs s.trailer x stays ∙ sightings_cut cut old x other in
     history_verdict h parts x ss is.0 some asked
-    ∙ ap (λ (b : Bool). cond b Revoked Good) (sym (listed_kept keeps rs s.trailer x stays ∙ listed_without without old x other))
-    ∙ sym (history_verdict (rebased h parts moment without []) (s ∷ []) x ss is some (λ t a. subst (λ (ts : List Sighting). Among ts t) (sym same) (asked t a)))
+    ∙ ap (λ (b : Bool). cond b Revoked Good) (sym (listed_kept keeps rs s.trailer x stays ∙ listed_cut cut old x other))
+    ∙ sym (history_verdict (rebased h parts moment cut []) (s ∷ []) x ss is some (λ t a. subst (λ (ts : List Sighting). Among ts t) (sym same) (asked t a)))

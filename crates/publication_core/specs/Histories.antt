@@ -1,6 +1,6 @@
 -- Histories of admitted jobs: how they begin, which job may follow, which part is published of it, and the bytes of what
 -- is published.
-use Rattle.std.specs.Prelude.{◌≡◌, true, false, ℕ, ◌+◌, ◌<◌, ◌≤◌, List, [], ◌∷◌, ◌++◌, map, length, Option, Some, None, All, IfSome, IsOk}
+use Rattle.std.specs.Prelude.{◌≡◌, false, ℕ, ◌+◌, ◌<◌, ◌≤◌, List, [], ◌∷◌, ◌++◌, map, length, Option, Some, None, All, IfSome, IsOk}
 use Rattle.ident_core.specs.Coverage.{LiesWithin}
 use Rattle.part_text.specs.SealedFields.{SealedFields}
 use Rattle.part_text.specs.PartText.{spelling}
@@ -10,14 +10,14 @@ use Rattle.job_core.specs.JobFacts.{FitsPublishing, IsWithinLimits}
 use Rattle.ident_core.specs.declared.bounds.TheConstants.{MAX_ISSUERS, MAX_PARTS}
 use Rattle.ledger_core.specs.LedgerText.{ledger_text, old_ledger_text}
 use Rattle.ident_core.specs.Among.{Among}
-use Rattle.ident_core.specs.Sets.{has_key}
+use Rattle.place_core.specs.Cuts.{Cut}
 use Rattle.universe_core.specs.Jobs.{JobFacts, is_enrolled}
 use Rattle.universe_core.specs.Formats.{dated, JobIn, in_format, reads_dates, facts_in}
 use Rattle.universe_core.specs.History.{Release, past_of, released, accepted_with}
 use Rattle.universe_core.specs.Groups.{GroupFields, groups}
 use Rattle.universe_core.specs.Ledgers.{part_from, ledger_of}
 use Rattle.universe_core.specs.Step.{head_after}
-use Rattle.history_core.specs.Bases.{all_issuers, base_head, releases_without, base_at}
+use Rattle.history_core.specs.Bases.{all_issuers, base_head, releases_cut, base_at}
 use Rattle.store_core.specs.StoreLayout.{store_text}
 use Rattle.publication_core.specs.Formats.{current}
 use Rattle.publication_core.specs.Building.{HaveBlocks, IsSealedPart}
@@ -92,21 +92,21 @@ pub record IsRebasable (moment : ℕ) (rs : List Release) : Type 0 where
 
 -- ---- histories
 
--- A history: jobs from the first on; or a base and the jobs behind it. The base stands, at a moment and without some
--- issuers, for a history with the parts that it published, which may itself begin with a base.
+-- A history: jobs from the first on; or a base and the jobs behind it. The base stands, at a moment, for what a cut
+-- keeps of a history with the parts that it published, which may itself begin with a base.
 pub data History : Type 0 where
   of_jobs : List JobIn → History
-  rebased : History → List SealedFields → ℕ → List (List ℕ) → List JobIn → History
+  rebased : History → List SealedFields → ℕ → Cut → List JobIn → History
 
 -- how many members it has: a base, if it begins with one, and the jobs
 abbrev pub members : History → ℕ
 members (of_jobs jobs) = length jobs
-members (rebased h old moment without jobs) = 1 + length jobs
+members (rebased h old moment cut jobs) = 1 + length jobs
 
 -- with a job more
 abbrev pub with_job : History → JobIn → History
 with_job (of_jobs jobs) j = of_jobs (jobs ++ j ∷ [])
-with_job (rebased h old moment without jobs) j = rebased h old moment without (jobs ++ j ∷ [])
+with_job (rebased h old moment cut jobs) j = rebased h old moment cut (jobs ++ j ∷ [])
 
 -- with more jobs, in order
 abbrev pub with_jobs : History → List JobIn → History
@@ -120,25 +120,25 @@ chain jobs = with_jobs (of_jobs []) (map (in_format current) jobs)
 -- what the members of a history with these parts leave
 abbrev pub releases_of : History → List SealedFields → List Release
 releases_of (of_jobs jobs) parts = releases_after [] jobs parts
-releases_of (rebased h old moment without jobs) [] = []
-releases_of (rebased h old moment without jobs) (s ∷ parts) =
-    releases_after (base_at moment (releases_without without (releases_of h old)) s.trailer ∷ []) jobs parts
+releases_of (rebased h old moment cut jobs) [] = []
+releases_of (rebased h old moment cut jobs) (s ∷ parts) =
+    releases_after (base_at moment (releases_cut cut (releases_of h old)) s.trailer ∷ []) jobs parts
 
 -- Each job of the history may follow those before it, the base may stand for its history, and these are the parts that
 -- they publish.
 abbrev pub IsHistory : History → List SealedFields → Type 0
 IsHistory (of_jobs jobs) parts = AreAdmissible [] jobs parts
-IsHistory (rebased h old moment without jobs) [] = ⊥
-IsHistory (rebased h old moment without jobs) (s ∷ parts) =
-    IsHistory h old × IsRebasable moment (releases_without without (releases_of h old))
-    × IsBasePart moment (releases_without without (releases_of h old)) s
-    × AreAdmissible (base_at moment (releases_without without (releases_of h old)) s.trailer ∷ []) jobs parts
+IsHistory (rebased h old moment cut jobs) [] = ⊥
+IsHistory (rebased h old moment cut jobs) (s ∷ parts) =
+    IsHistory h old × IsRebasable moment (releases_cut cut (releases_of h old))
+    × IsBasePart moment (releases_cut cut (releases_of h old)) s
+    × AreAdmissible (base_at moment (releases_cut cut (releases_of h old)) s.trailer ∷ []) jobs parts
 
 -- The history begins with a base that leaves out the issuer, and none of its jobs enrolls it.
 abbrev pub LeavesOut : History → List ℕ → Type 0
 LeavesOut (of_jobs jobs) issuer = ⊥
-LeavesOut (rebased h old moment without jobs) issuer =
-    (has_key without issuer ≡ true) × ((j : JobIn) → Among jobs j → is_enrolled (facts_in j) issuer ≡ false)
+LeavesOut (rebased h old moment cut jobs) issuer =
+    (cut.takes issuer ≡ false) × ((j : JobIn) → Among jobs j → is_enrolled (facts_in j) issuer ≡ false)
 
 -- ---- bytes
 
@@ -154,7 +154,7 @@ ledger_bytes h parts = ledger_text (ledger_of (releases_of h parts))
 -- no job of the history is in a format that reads dates, and it begins with no base
 abbrev pub IsUndated : History → Type 0
 IsUndated (of_jobs jobs) = All (λ j. reads_dates j.format ≡ false) jobs
-IsUndated (rebased h old moment without jobs) = ⊥
+IsUndated (rebased h old moment cut jobs) = ⊥
 
 -- the bytes of its ledger in version 1
 abbrev pub old_ledger_bytes : History → List SealedFields → List ℕ

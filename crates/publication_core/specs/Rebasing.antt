@@ -6,12 +6,12 @@ use Rattle.equation_core.specs.Rows.{sha256_row}
 use Rattle.part_text.specs.SealedFields.{SealedFields}
 use Rattle.job_core.specs.declared.bounds.What.TheVariants.{Issuers}
 use Rattle.ledger_core.specs.LedgerFields.{LedgerFields}
-use Rattle.ident_core.specs.Sets.{has_key}
+use Rattle.place_core.specs.Cuts.{Cut, is_kept}
 use Rattle.universe_core.specs.Formats.{dated}
 use Rattle.universe_core.specs.History.{Release, accepted_by, is_listed}
-use Rattle.universe_core.specs.Rebases.{ledger_without, count_left, is_lasting, issuers_in, kept, kept_revoked}
+use Rattle.universe_core.specs.Rebases.{ledger_cut, count_left, is_lasting, issuers_in, kept, kept_revoked}
 use Rattle.universe_core.specs.Rebases.{count_pruned, rebased_head, rebased_groups, rebased_ledger}
-use Rattle.history_core.specs.Bases.{all_issuers, kept_by, releases_without, is_lasting_by}
+use Rattle.history_core.specs.Bases.{all_issuers, kept_by, releases_cut, is_lasting_by}
 use Rattle.builder_core.specs.Building.{IsFirstRefused}
 use Rattle.publication_core.specs.declared.base.BaseCounts.{BaseCounts}
 use Rattle.publication_core.specs.declared.base_fault.BaseFault.{BaseFault}
@@ -21,14 +21,14 @@ use Rattle.publication_core.specs.Building.{IsSealedPart}
 
 -- ---- how many there are
 
--- what a rebase of the ledger without some issuers keeps, and what it doesn't
-abbrev pub base_counts_after : ℕ → List (List ℕ) → LedgerFields → BaseCounts
-base_counts_after moment without ledger = record {
-  issuers = length (issuers_in (ledger_without without ledger).parts);
-  universe = length (kept (is_lasting moment) (ledger_without without ledger));
-  revoked = length (kept_revoked (is_lasting moment) (ledger_without without ledger));
-  pruned = count_pruned (is_lasting moment) (ledger_without without ledger);
-  left = count_left without ledger;
+-- what a rebase of the ledger, cut, keeps, and what it doesn't
+abbrev pub base_counts_after : ℕ → Cut → LedgerFields → BaseCounts
+base_counts_after moment cut ledger = record {
+  issuers = length (issuers_in (ledger_cut cut ledger).parts);
+  universe = length (kept (is_lasting moment) (ledger_cut cut ledger));
+  revoked = length (kept_revoked (is_lasting moment) (ledger_cut cut ledger));
+  pruned = count_pruned (is_lasting moment) (ledger_cut cut ledger);
+  left = count_left cut ledger;
 }
 
 -- the same of the base of releases
@@ -41,10 +41,10 @@ counts_of_base moment rs left = record {
   left = left;
 }
 
--- the same of the base of these releases without some issuers
-abbrev pub base_counts : ℕ → List (List ℕ) → List Release → BaseCounts
-base_counts moment without rs =
-    counts_of_base moment (releases_without without rs) (count_by (λ x. has_key without x.issuer) (accepted_by [] rs))
+-- the same of the base of what a cut keeps of these releases
+abbrev pub base_counts : ℕ → Cut → List Release → BaseCounts
+base_counts moment cut rs =
+    counts_of_base moment (releases_cut cut rs) (count_by (λ x. not (is_kept cut x)) (accepted_by [] rs))
 
 -- ---- what is published
 
@@ -54,18 +54,18 @@ pub record BasePublicationFields : Type 0 where
   pub ledger : LedgerFields
   pub counts : BaseCounts
 
--- The ledger's parts have few enough other issuers, and this is its part at the moment without these, with its ledger and
--- its counts; or they have more than a part may; or they haven't, and an issuer has no block.
-abbrev pub PublishesBase : LedgerFields → ℕ → List (List ℕ) → Result BasePublicationFields BaseFault → Type 0
-PublishesBase ledger moment without (Ok p) =
-    (length (issuers_in (ledger_without without ledger).parts) ≤ MAX_ISSUERS)
-    × IsSealedPart dated (rebased_head (ledger_without without ledger).parts)
-    (rebased_groups (is_lasting moment) (ledger_without without ledger)) p.sealed
-    × (p.ledger ≡ rebased_ledger (is_lasting moment) (ledger_without without ledger) p.sealed.trailer)
-    × (p.counts ≡ base_counts_after moment without ledger)
-PublishesBase ledger moment without (Err (TooMany what limit)) =
-    (what ≡ Issuers) × (limit ≡ MAX_ISSUERS) × (MAX_ISSUERS < length (issuers_in (ledger_without without ledger).parts))
-PublishesBase ledger moment without (Err (SeedsExhausted issuer stage)) =
-    (length (issuers_in (ledger_without without ledger).parts) ≤ MAX_ISSUERS)
-    × IsFirstRefused (blocks_in dated) sha256_row (rebased_groups (is_lasting moment) (ledger_without without ledger)) issuer stage
-PublishesBase ledger moment without (Err NoMemory) = ⊥
+-- Of the issuers of the ledger's parts few enough are taken, and this is its part of what is kept at the moment, with its
+-- ledger and its counts; or more are taken than a part may have; or they aren't, and an issuer has no block.
+abbrev pub PublishesBase : LedgerFields → ℕ → Cut → Result BasePublicationFields BaseFault → Type 0
+PublishesBase ledger moment cut (Ok p) =
+    (length (issuers_in (ledger_cut cut ledger).parts) ≤ MAX_ISSUERS)
+    × IsSealedPart dated (rebased_head (ledger_cut cut ledger).parts)
+    (rebased_groups (is_lasting moment) (ledger_cut cut ledger)) p.sealed
+    × (p.ledger ≡ rebased_ledger (is_lasting moment) (ledger_cut cut ledger) p.sealed.trailer)
+    × (p.counts ≡ base_counts_after moment cut ledger)
+PublishesBase ledger moment cut (Err (TooMany what limit)) =
+    (what ≡ Issuers) × (limit ≡ MAX_ISSUERS) × (MAX_ISSUERS < length (issuers_in (ledger_cut cut ledger).parts))
+PublishesBase ledger moment cut (Err (SeedsExhausted issuer stage)) =
+    (length (issuers_in (ledger_cut cut ledger).parts) ≤ MAX_ISSUERS)
+    × IsFirstRefused (blocks_in dated) sha256_row (rebased_groups (is_lasting moment) (ledger_cut cut ledger)) issuer stage
+PublishesBase ledger moment cut (Err NoMemory) = ⊥

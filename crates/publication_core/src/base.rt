@@ -13,9 +13,9 @@ pub struct BaseCounts {
     pub universe: usize,
     /// Those of them that are revoked.
     pub revoked: usize,
-    /// The identities of these issuers that have expired, and aren't kept.
+    /// The identities that have expired and aren't left out.
     pub pruned: u32,
-    /// The identities of issuers that are left out.
+    /// The identities that are left out.
     pub left: u32,
 }
 

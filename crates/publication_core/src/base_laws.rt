@@ -1,7 +1,7 @@
-//! What follows for the base of every history, and what a ledger without some issuers is, with no call.
+//! What follows for the base of every history, and what a ledger is that is cut, with no call.
 
 ghost use Rattle.std.specs.Prelude.{◌≡◌, ◌≤◌, ◌+◌, ◌∷◌, ◌++◌, [], ℕ, Bool, List, Ok, Result, Some, filter, length};
-ghost use Rattle.std.specs.Prelude.{map, true, false, if◌then◌else◌};
+ghost use Rattle.std.specs.Prelude.{map, true, if◌then◌else◌};
 ghost use Rattle.std.specs.List.{list_any};
 ghost use Rattle.ident_core.specs.declared.identity.Identity.{Identity};
 ghost use Rattle.ident_core.specs.declared.range.Sighting.{Sighting};
@@ -10,15 +10,16 @@ ghost use Rattle.ledger_core.specs.declared.fields.LedgerItem.{LedgerItem};
 ghost use Rattle.ledger_core.specs.LedgerFields.{LedgerFields};
 ghost use Rattle.ident_core.specs.declared.bounds.TheConstants.{MAX_ISSUERS};
 ghost use Rattle.ident_core.specs.Among.{Among};
-ghost use Rattle.ident_core.specs.Sets.{has, has_key};
+ghost use Rattle.ident_core.specs.Sets.{has};
 ghost use Rattle.ident_core.specs.Coverage.{covers};
+ghost use Rattle.place_core.specs.Cuts.{Cut, is_kept, everything};
 ghost use Rattle.universe_core.specs.Formats.{JobIn, dated, facts_in};
 ghost use Rattle.universe_core.specs.Jobs.{Entry, is_enrolled};
 ghost use Rattle.universe_core.specs.History.{seen, sightings};
 ghost use Rattle.universe_core.specs.Ledgers.{ledger_of};
-ghost use Rattle.universe_core.specs.Rebases.{is_other, is_of_other, ledger_without, issuers_in, kept, count_pruned, count_left};
+ghost use Rattle.universe_core.specs.Rebases.{is_kept_item, ledger_cut, issuers_in, kept, count_pruned, count_left};
 ghost use Rattle.universe_core.specs.Rebases.{is_lasting, rebased_head, rebased_groups};
-ghost use Rattle.history_core.specs.Bases.{kept_by, releases_without, is_lasting_by};
+ghost use Rattle.history_core.specs.Bases.{kept_by, releases_cut, is_lasting_by};
 ghost use Rattle.card_core.specs.declared.verdict.Verdict.TheVariants as Verdict;
 ghost use Rattle.card_core.specs.Consulting.{covers_some};
 ghost use Rattle.card_core.specs.Verdict.{verdict};
@@ -31,49 +32,49 @@ ghost use Rattle.publication_core.specs.Rebasing.{BasePublicationFields, Publish
 /// (`rebasable`), the history that begins with this base has its part (`history`) and its ledger (`ledger`), and its
 /// counts (`numbers`). Each history for which a base may stand is rebased (`complete`).
 pub fn bases_are_published()
-    ensures rebasable { (h : History) (parts : List SealedFields) (moment : ℕ) (without : List (List ℕ))
+    ensures rebasable { (h : History) (parts : List SealedFields) (moment : ℕ) (cut : Cut)
         (p : BasePublicationFields) → IsHistory h parts → 1 ≤ members h
-        → PublishesBase (ledger_of (releases_of h parts)) moment without (Ok p)
-        → IsRebasable moment (releases_without without (releases_of h parts)) }
-    ensures history { (h : History) (parts : List SealedFields) (moment : ℕ) (without : List (List ℕ))
+        → PublishesBase (ledger_of (releases_of h parts)) moment cut (Ok p)
+        → IsRebasable moment (releases_cut cut (releases_of h parts)) }
+    ensures history { (h : History) (parts : List SealedFields) (moment : ℕ) (cut : Cut)
         (p : BasePublicationFields) → IsHistory h parts → 1 ≤ members h
-        → PublishesBase (ledger_of (releases_of h parts)) moment without (Ok p)
-        → IsHistory (rebased h parts moment without []) (p.sealed ∷ []) }
-    ensures ledger { (h : History) (parts : List SealedFields) (moment : ℕ) (without : List (List ℕ))
+        → PublishesBase (ledger_of (releases_of h parts)) moment cut (Ok p)
+        → IsHistory (rebased h parts moment cut []) (p.sealed ∷ []) }
+    ensures ledger { (h : History) (parts : List SealedFields) (moment : ℕ) (cut : Cut)
         (p : BasePublicationFields) → IsHistory h parts
-        → PublishesBase (ledger_of (releases_of h parts)) moment without (Ok p)
-        → p.ledger ≡ ledger_of (releases_of (rebased h parts moment without []) (p.sealed ∷ [])) }
-    ensures numbers { (h : History) (parts : List SealedFields) (moment : ℕ) (without : List (List ℕ))
+        → PublishesBase (ledger_of (releases_of h parts)) moment cut (Ok p)
+        → p.ledger ≡ ledger_of (releases_of (rebased h parts moment cut []) (p.sealed ∷ [])) }
+    ensures numbers { (h : History) (parts : List SealedFields) (moment : ℕ) (cut : Cut)
         (p : BasePublicationFields) → IsHistory h parts
-        → PublishesBase (ledger_of (releases_of h parts)) moment without (Ok p)
-        → p.counts ≡ base_counts moment without (releases_of h parts) }
-    ensures complete { (h : History) (parts : List SealedFields) (moment : ℕ) (without : List (List ℕ))
-        → IsHistory h parts → IsRebasable moment (releases_without without (releases_of h parts))
-        → (p : BasePublicationFields) × PublishesBase (ledger_of (releases_of h parts)) moment without (Ok p) }
+        → PublishesBase (ledger_of (releases_of h parts)) moment cut (Ok p)
+        → p.counts ≡ base_counts moment cut (releases_of h parts) }
+    ensures complete { (h : History) (parts : List SealedFields) (moment : ℕ) (cut : Cut)
+        → IsHistory h parts → IsRebasable moment (releases_cut cut (releases_of h parts))
+        → (p : BasePublicationFields) × PublishesBase (ledger_of (releases_of h parts)) moment cut (Ok p) }
 {}
 
 /// One thing comes of a rebase behind a ledger (`outcome`), that of a history or not: something is published or there
 /// is a reason against it (`some`), and it is published where its issuers are few and each has a block (`complete`).
 /// Want of memory is no reason.
 pub fn one_thing_comes_of_a_rebase()
-    ensures outcome { (ledger : LedgerFields) (moment : ℕ) (without : List (List ℕ)) (a b : Result BasePublicationFields BaseFault)
-        → PublishesBase ledger moment without a → PublishesBase ledger moment without b → a ≡ b }
-    ensures some { (ledger : LedgerFields) (moment : ℕ) (without : List (List ℕ))
-        → (o : Result BasePublicationFields BaseFault) × PublishesBase ledger moment without o }
-    ensures complete { (ledger : LedgerFields) (moment : ℕ) (without : List (List ℕ))
-        → length (issuers_in (ledger_without without ledger).parts) ≤ MAX_ISSUERS
-        → HaveBlocks dated (rebased_groups (is_lasting moment) (ledger_without without ledger))
-        → (p : BasePublicationFields) × PublishesBase ledger moment without (Ok p) }
+    ensures outcome { (ledger : LedgerFields) (moment : ℕ) (cut : Cut) (a b : Result BasePublicationFields BaseFault)
+        → PublishesBase ledger moment cut a → PublishesBase ledger moment cut b → a ≡ b }
+    ensures some { (ledger : LedgerFields) (moment : ℕ) (cut : Cut)
+        → (o : Result BasePublicationFields BaseFault) × PublishesBase ledger moment cut o }
+    ensures complete { (ledger : LedgerFields) (moment : ℕ) (cut : Cut)
+        → length (issuers_in (ledger_cut cut ledger).parts) ≤ MAX_ISSUERS
+        → HaveBlocks dated (rebased_groups (is_lasting moment) (ledger_cut cut ledger))
+        → (p : BasePublicationFields) × PublishesBase ledger moment cut (Ok p) }
 {}
 
-/// A rebase keeps the verdicts: of an identity that has not expired and whose issuer isn't left out, asked with one or
+/// A rebase keeps the verdicts: of an identity that has not expired and is kept by the cut, asked with one or
 /// more accepted sightings of the history, the part of the base says what the parts of the history say.
 pub fn rebases_keep_verdicts()
-    ensures { (h : History) (parts : List SealedFields) (moment : ℕ) (without : List (List ℕ)) (s : SealedFields)
+    ensures { (h : History) (parts : List SealedFields) (moment : ℕ) (cut : Cut) (s : SealedFields)
         (x : Identity) (ss : List Sighting)
-        → IsHistory (rebased h parts moment without []) (s ∷ [])
+        → IsHistory (rebased h parts moment cut []) (s ∷ [])
         → has (kept_by (is_lasting_by moment (releases_of h parts)) (releases_of h parts)) x ≡ true
-        → has_key without x.issuer ≡ false
+        → is_kept cut x ≡ true
         → 1 ≤ length ss → ((t : Sighting) → Among ss t → Among (sightings x (seen (releases_of h parts))) t)
         → verdict (map (λ t. t.part) parts) x ss ≡ verdict (s.part ∷ []) x ss }
 {}
@@ -91,19 +92,17 @@ pub fn issuers_that_are_left_out_come_back()
         → is_enrolled (facts_in j) e.id.issuer ≡ true → Among (seen (releases_of (with_job h j) (parts ++ s ∷ []))) e }
 {}
 
-/// A ledger is rebased without some issuers where the ledger without them is rebased. That has the same head, a block
-/// for each issuer but these, and of the kept items those of other issuers. Each item is kept, pruned or left out. And
-/// without no issuer, it is the ledger itself.
-pub fn issuers_are_left_out()
-    ensures head { (without : List (List ℕ)) (ledger : LedgerFields)
-        → rebased_head (ledger_without without ledger).parts ≡ rebased_head ledger.parts }
-    ensures issuers { (without : List (List ℕ)) (ledger : LedgerFields)
-        → issuers_in (ledger_without without ledger).parts ≡ filter (is_other without) (issuers_in ledger.parts) }
-    ensures items { (without : List (List ℕ)) (keeps : LedgerItem → Bool) (ledger : LedgerFields)
-        → kept keeps (ledger_without without ledger) ≡ filter (is_of_other without) (kept keeps ledger) }
-    ensures each { (without : List (List ℕ)) (keeps : LedgerItem → Bool) (ledger : LedgerFields)
-        → length (kept keeps (ledger_without without ledger)) + count_pruned keeps (ledger_without without ledger)
-        + count_left without ledger
+/// A ledger is rebased to what a cut keeps where the ledger, cut, is rebased. That has the same head, a block for each
+/// issuer that is taken, and of the items that last those that are kept. Each item lasts, is pruned or is left out. And
+/// where everything is kept, it is the ledger itself.
+pub fn ledgers_are_cut()
+    ensures head { (cut : Cut) (ledger : LedgerFields) → rebased_head (ledger_cut cut ledger).parts ≡ rebased_head ledger.parts }
+    ensures issuers { (cut : Cut) (ledger : LedgerFields)
+        → issuers_in (ledger_cut cut ledger).parts ≡ filter cut.takes (issuers_in ledger.parts) }
+    ensures items { (cut : Cut) (keeps : LedgerItem → Bool) (ledger : LedgerFields)
+        → kept keeps (ledger_cut cut ledger) ≡ filter (is_kept_item cut) (kept keeps ledger) }
+    ensures each { (cut : Cut) (keeps : LedgerItem → Bool) (ledger : LedgerFields)
+        → length (kept keeps (ledger_cut cut ledger)) + count_pruned keeps (ledger_cut cut ledger) + count_left cut ledger
         ≡ length ledger.items }
-    ensures none { (ledger : LedgerFields) → ledger_without [] ledger ≡ ledger }
+    ensures all { (ledger : LedgerFields) → ledger_cut everything ledger ≡ ledger }
 {}

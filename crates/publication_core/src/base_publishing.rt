@@ -2,16 +2,17 @@
 
 ghost use Rattle.std.specs.Prelude.{◌≡◌, ◌≢◌, ◌≤◌, Err, length, filter, is_some};
 ghost use Rattle.ident_core.specs.declared.bounds.TheConstants.{MAX_WORKERS};
+ghost use Rattle.publication_core.specs.Leavings.{cut_of};
 ghost use Rattle.publication_core.specs.Rebasing.{PublishesBase};
 
 use crate::base::{BaseCounts, BasePublication};
 use crate::base_fault::BaseFault;
+use crate::leaving::Leaving;
 use crate::publish::built;
 use crate::rebased::Rebased;
 use crate::rebasing::rebase;
 use builder_core::Gate;
 use ledger_core::{Ledger, LedgerItem};
-use octets_core::Key32;
 use std::alloc::Global;
 use std::thread::Threads;
 
@@ -23,23 +24,23 @@ fn count_revoked(items: &[LedgerItem]) -> usize
 }
 
 /// What is published of a ledger without the identities whose date lies before the moment, which is in milliseconds
-/// since 1970, and without some issuers, which may stand in any order, more than once, and in no part: the part and the
-/// ledger that begin a chain anew. It is built by 1 to 64 workers, each of which enters
-/// the gate before it builds a leaf of an issuer's block. The ledger is let go before the part is built.
+/// since 1970, and without what is left out: the part and the ledger that begin a chain anew. It is built by 1 to 64
+/// workers, each of which enters the gate before it builds a leaf of an issuer's block. The ledger is let go before the
+/// part is built.
 pub fn publish_base<R: Threads + Sync, G: Gate + Sync>(
     rt: &R,
     alloc: Global,
     gate: &G,
     ledger: Ledger,
     moment: u64,
-    without: &[Key32],
+    leaving: &Leaving<'_>,
     workers: u32,
 ) -> Result<BasePublication, BaseFault>
     requires some_workers { 1 ≤ workers }
     requires few_workers { workers ≤ MAX_WORKERS }
-    ensures { result ≢ Err BaseFault.NoMemory → PublishesBase ledger moment without.now result }
+    ensures { result ≢ Err BaseFault.NoMemory → PublishesBase ledger moment (cut_of leaving.now) result }
 {
-    let rebased = rebase(alloc, &ledger, moment, without)?;
+    let rebased = rebase(alloc, &ledger, moment, leaving)?;
     let Rebased {
         head,
         groups,

@@ -3,7 +3,7 @@ ghost use Rattle.std.specs.List.Sorted.{IsStrictlySortedBy};
 ghost use Rattle.ident_core.specs.Order.{octets_cmp};
 ghost use Rattle.ledger_core.specs.LedgerFields.{part_fields};
 ghost use Rattle.ident_core.specs.Sets.{key_set};
-ghost use Rattle.universe_core.specs.Rebases.{is_other};
+ghost use Rattle.publication_core.specs.Leavings.{cut_by};
 
 use crate::leaving::LeftOut;
 use ident_core::sort_keys_once;
@@ -26,10 +26,10 @@ fn put_others(
     issuers: &[Key32],
     left_out: &LeftOut,
 ) -> Result<(), AllocError>
-    ensures { OnOk result (keys.new.items ≡ keys.old.items ++ filter (is_other left_out.now) issuers.now) }
+    ensures { OnOk result (keys.new.items ≡ keys.old.items ++ filter (cut_by left_out.now).takes issuers.now) }
 {
     for issuer in issuers {
-        if !left_out.has(issuer) {
+        if left_out.takes(issuer) {
             keys.push(*issuer)?;
         }
     }
@@ -43,7 +43,7 @@ fn each_issuer(
     left_out: &LeftOut,
 ) -> Result<Vec<Key32>, AllocError>
     ensures { IfOk result (λ keys. keys.items
-        ≡ flat_map (λ p. filter (is_other left_out.now) p.issuers) (map part_fields parts.now)) }
+        ≡ flat_map (λ p. filter (cut_by left_out.now).takes p.issuers) (map part_fields parts.now)) }
 {
     let mut keys = Vec::with_capacity(alloc, room(parts))?;
     for part in parts {
@@ -59,7 +59,7 @@ pub(crate) fn all_issuers(
     left_out: &LeftOut,
 ) -> Result<Vec<Key32>, AllocError>
     ensures set { IfOk result (λ keys. keys.items
-        ≡ key_set (flat_map (λ p. filter (is_other left_out.now) p.issuers) (map part_fields parts.now))) }
+        ≡ key_set (flat_map (λ p. filter (cut_by left_out.now).takes p.issuers) (map part_fields parts.now))) }
     ensures ascend { IfOk result (λ keys. IsStrictlySortedBy octets_cmp keys.items) }
 {
     let mut keys = each_issuer(alloc, parts, left_out)?;

@@ -1,7 +1,7 @@
-ghost use Rattle.std.specs.Prelude.{◌≡◌, ◌&&◌, IfOk, map, filter, is_some, count_by};
-ghost use Rattle.ident_core.specs.Sets.{has_key};
+ghost use Rattle.std.specs.Prelude.{◌≡◌, ◌&&◌, IfOk, map, filter, is_some, count_by, not};
 ghost use Rattle.universe_core.specs.Jobs.{is_stale};
-ghost use Rattle.universe_core.specs.Rebases.{is_lasting, is_of_other, rebased_item};
+ghost use Rattle.universe_core.specs.Rebases.{is_lasting, is_kept_item, rebased_item};
+ghost use Rattle.publication_core.specs.Leavings.{cut_by};
 
 use crate::leaving::LeftOut;
 use ledger_core::LedgerItem;
@@ -24,9 +24,9 @@ fn lasts(item: &LedgerItem, moment: u64) -> bool
 }
 
 fn stays(item: &LedgerItem, moment: u64, left_out: &LeftOut) -> bool
-    ensures { result ≡ (is_lasting moment item.now && is_of_other left_out.now item.now) }
+    ensures { result ≡ (is_lasting moment item.now && is_kept_item (cut_by left_out.now) item.now) }
 {
-    lasts(item, moment) && !left_out.has(&item.id.issuer)
+    lasts(item, moment) && left_out.keeps(&item.id)
 }
 
 /// The item in a chain of one part.
@@ -42,7 +42,7 @@ fn renewed(item: &LedgerItem) -> LedgerItem
 }
 
 fn count_kept(items: &[LedgerItem], moment: u64, left_out: &LeftOut) -> usize
-    ensures { result ≡ count_by (λ i. is_lasting moment i && is_of_other left_out.now i) items.now }
+    ensures { result ≡ count_by (λ i. is_lasting moment i && is_kept_item (cut_by left_out.now) i) items.now }
 {
     items
         .iter()
@@ -50,17 +50,17 @@ fn count_kept(items: &[LedgerItem], moment: u64, left_out: &LeftOut) -> usize
         .count()
 }
 
-/// How many items are of issuers that are left out.
+/// How many items are left out.
 pub(crate) fn count_left(items: &[LedgerItem], left_out: &LeftOut) -> usize
-    ensures { result ≡ count_by (λ i. has_key left_out.now i.id.issuer) items.now }
+    ensures { result ≡ count_by (λ i. not (is_kept_item (cut_by left_out.now) i)) items.now }
 {
     items
         .iter()
-        .filter(|item| left_out.has(&item.id.issuer))
+        .filter(|item| !left_out.keeps(&item.id))
         .count()
 }
 
-/// The items that have not expired and whose issuers aren't left out, as a chain of one part has them.
+/// The items that have not expired and aren't left out, as a chain of one part has them.
 pub(crate) fn kept(
     alloc: Global,
     items: &[LedgerItem],
@@ -68,7 +68,7 @@ pub(crate) fn kept(
     left_out: &LeftOut,
 ) -> Result<Vec<LedgerItem>, AllocError>
     ensures { IfOk result (λ out. out.items
-        ≡ map rebased_item (filter (λ i. is_lasting moment i && is_of_other left_out.now i) items.now)) }
+        ≡ map rebased_item (filter (λ i. is_lasting moment i && is_kept_item (cut_by left_out.now) i) items.now)) }
 {
     let mut out = Vec::with_capacity(alloc, count_kept(items, moment, left_out))?;
     for item in items {

@@ -1,15 +1,29 @@
-use ident_core::{holds_key, sort_keys_once};
+use ident_core::{Identity, holds_key, sort_keys_once};
 use octets_core::Key32;
+use place_core::{By, PlaceCount, place_of, place_of_issuer};
 use std::alloc::{AllocError, Global};
 use std::marker::Model;
 
-/// The issuers that a rebase leaves out.
+/// What a rebase leaves out of a ledger.
+#[derive(Clone, Copy, Debug)]
+pub enum Leaving<'a> {
+    /// These issuers and their identities. They stand in any order, perhaps more than once, and perhaps in no part.
+    Issuers(&'a [Key32]),
+    /// What other places have than this one, by issuer or by identity, among so many.
+    OtherPlaces {
+        by: By,
+        count: PlaceCount,
+        place: u32,
+    },
+}
+
+/// A set of issuers.
 #[derive(Drop)]
-pub(crate) struct LeftOut {
+pub(crate) struct Issuers {
     keys: Vec<Key32>,
 }
 
-impl Model for LeftOut {
+impl Model for Issuers {
     ghost use Rattle.std.specs.Prelude.{List, ℕ};
     ghost use Rattle.std.specs.List.Sorted.{IsStrictlySortedBy};
     ghost use Rattle.ident_core.specs.Order.{octets_cmp};
@@ -21,24 +35,88 @@ impl Model for LeftOut {
     ghost invariant = { λ l. IsStrictlySortedBy octets_cmp l.keys.items };
 }
 
-impl LeftOut {
+impl Issuers {
     ghost use Rattle.std.specs.Prelude.{◌≡◌, IfOk};
     ghost use Rattle.ident_core.specs.Sets.{has_key, key_set};
 
     /// The set of these.
-    pub(crate) fn new(alloc: Global, issuers: &[Key32]) -> Result<LeftOut, AllocError>
+    fn new(alloc: Global, issuers: &[Key32]) -> Result<Issuers, AllocError>
         ensures { IfOk result (λ l. l ≡ key_set issuers.now) }
     {
         let mut keys = Vec::with_capacity(alloc, issuers.len())?;
         keys.extend_from_slice(issuers)?;
         sort_keys_once(&mut keys);
-        Ok(LeftOut { keys })
+        Ok(Issuers { keys })
     }
 
     /// Whether the issuer is one of them.
-    pub(crate) fn has(&self, issuer: &Key32) -> bool
+    fn has(&self, issuer: &Key32) -> bool
         ensures { result ≡ has_key self.now issuer.now }
     {
         holds_key(&self.keys, issuer)
+    }
+}
+
+/// What a rebase leaves out, made ready to be asked of each issuer and identity.
+#[derive(Drop)]
+pub(crate) enum LeftOut {
+    Issuers(Issuers),
+    OtherPlaces {
+        by: By,
+        count: PlaceCount,
+        place: u32,
+    },
+}
+
+impl LeftOut {
+    ghost use Rattle.std.specs.Prelude.{◌≡◌, IfOk};
+    ghost use Rattle.place_core.specs.Cuts.{is_kept};
+    ghost use Rattle.publication_core.specs.Leavings.{cut_of, cut_by};
+
+    /// The issuers are put in order.
+    pub(crate) fn new(alloc: Global, leaving: &Leaving<'_>) -> Result<LeftOut, AllocError>
+        ensures { IfOk result (λ l. cut_by l ≡ cut_of leaving.now) }
+    {
+        match leaving {
+            Leaving::Issuers(issuers) => Ok(LeftOut::Issuers(Issuers::new(alloc, issuers)?)),
+            Leaving::OtherPlaces { by, count, place } => Ok(LeftOut::OtherPlaces {
+                by: *by,
+                count: *count,
+                place: *place,
+            }),
+        }
+    }
+
+    /// Whether the issuer stays.
+    pub(crate) fn takes(&self, issuer: &Key32) -> bool
+        ensures { result ≡ (cut_by self.now).takes issuer.now }
+    {
+        match self {
+            LeftOut::Issuers(issuers) => !issuers.has(issuer),
+            LeftOut::OtherPlaces { by, count, place } => match by {
+                By::Issuer => place_of_issuer(issuer, *count) == *place,
+                By::Identity => true,
+            },
+        }
+    }
+
+    /// Whether the identity of an issuer that stays does.
+    fn chooses(&self, id: &Identity) -> bool
+        ensures { result ≡ (cut_by self.now).chooses id.now }
+    {
+        match self {
+            LeftOut::Issuers(_) => true,
+            LeftOut::OtherPlaces { by, count, place } => match by {
+                By::Issuer => true,
+                By::Identity => place_of(id, *count) == *place,
+            },
+        }
+    }
+
+    /// Whether the identity stays.
+    pub(crate) fn keeps(&self, id: &Identity) -> bool
+        ensures { result ≡ is_kept (cut_by self.now) id.now }
+    {
+        self.takes(&id.issuer) && self.chooses(id)
     }
 }

@@ -25,7 +25,7 @@ mod verdict_laws;
 pub use base::{BaseCounts, BasePublication};
 pub use base_fault::BaseFault;
 pub use base_laws::{
-    bases_are_published, issuers_are_left_out, issuers_that_are_left_out_come_back,
+    bases_are_published, issuers_that_are_left_out_come_back, ledgers_are_cut,
     one_thing_comes_of_a_rebase, rebases_keep_verdicts,
 };
 pub use base_publishing::publish_base;
@@ -34,6 +34,7 @@ pub use chain_laws::parts_are_chains;
 pub use existence::a_publication_or_a_refusal;
 pub use fault::PublishFault;
 pub use laws::{histories_are_published, publications_are_unique, what_can_be_is_published};
+pub use leaving::Leaving;
 pub use ledger_laws::ledgers_are_read_back;
 pub use publication::Publication;
 pub use publish::{publish_after, publish_first};

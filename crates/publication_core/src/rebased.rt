@@ -9,9 +9,9 @@ pub struct Rebased {
     pub head: Head,
     /// One for each issuer that was enrolled in some part of the old chain and isn't left out, ascending.
     pub groups: Vec<Group>,
-    /// How many identities of other issuers have expired, and aren't kept.
+    /// How many of the other identities have expired, and aren't kept.
     pub pruned: u32,
-    /// How many identities are of issuers that are left out.
+    /// How many identities are left out.
     pub left: u32,
     /// The new ledger, but for the trailer of its part.
     pub next: Draft,

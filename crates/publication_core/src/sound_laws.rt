@@ -8,12 +8,13 @@ ghost use Rattle.ident_core.specs.Coverage.{covers};
 ghost use Rattle.part_text.specs.SealedFields.{SealedFields};
 ghost use Rattle.ident_core.specs.Among.{Among};
 ghost use Rattle.ident_core.specs.Sets.{has, has_key};
+ghost use Rattle.place_core.specs.Cuts.{Cut};
 ghost use Rattle.universe_core.specs.Jobs.{Entry, is_enrolled, lists};
 ghost use Rattle.universe_core.specs.Formats.{JobIn, facts_in};
 ghost use Rattle.universe_core.specs.History.{Release, accepted_by, seen, sightings, birth, is_listed};
 ghost use Rattle.universe_core.specs.Ledgers.{last};
 ghost use Rattle.history_core.specs.Facts.{IsSound};
-ghost use Rattle.history_core.specs.Bases.{kept_by, releases_without, base_at, is_lasting_by};
+ghost use Rattle.history_core.specs.Bases.{kept_by, releases_cut, base_at, is_lasting_by};
 ghost use Rattle.publication_core.specs.Histories.{IsAdmissible, release_of, History, of_jobs, rebased, IsHistory, releases_of};
 
 /// Every history is sound: it is so before the first job (`begun`), a base is where the releases are for which it stands
@@ -48,12 +49,12 @@ pub fn histories_are_sound()
         → is_listed (releases_of (of_jobs jobs) parts) x
         ≡ list_any (λ j. lists (facts_in j) x && is_enrolled (facts_in j) x.issuer)
         (drop (birth x (releases_of (of_jobs jobs) parts)) jobs) }
-    ensures listed_behind { (h : History) (old : List SealedFields) (moment : ℕ) (without : List (List ℕ)) (jobs : List JobIn)
-        (parts : List SealedFields) (x : Identity) → IsHistory (rebased h old moment without jobs) parts
-        → is_listed (releases_of (rebased h old moment without jobs) parts) x
-        ≡ ((has (kept_by (is_lasting_by moment (releases_without without (releases_of h old)))
-        (releases_without without (releases_of h old))) x
-        && is_listed (releases_without without (releases_of h old)) x)
+    ensures listed_behind { (h : History) (old : List SealedFields) (moment : ℕ) (cut : Cut) (jobs : List JobIn)
+        (parts : List SealedFields) (x : Identity) → IsHistory (rebased h old moment cut jobs) parts
+        → is_listed (releases_of (rebased h old moment cut jobs) parts) x
+        ≡ ((has (kept_by (is_lasting_by moment (releases_cut cut (releases_of h old)))
+        (releases_cut cut (releases_of h old))) x
+        && is_listed (releases_cut cut (releases_of h old)) x)
         || list_any (λ j. lists (facts_in j) x && is_enrolled (facts_in j) x.issuer)
-        (drop (birth x (drop 1 (releases_of (rebased h old moment without jobs) parts))) jobs)) }
+        (drop (birth x (drop 1 (releases_of (rebased h old moment cut jobs) parts))) jobs)) }
 {}

@@ -1,5 +1,5 @@
 -- A rebase: a chain that begins anew, with one part, from what a ledger keeps. Which items are kept is told by a test. A
--- rebase without some issuers is that of the ledger without them.
+-- rebase of what a cut keeps is that of the ledger, cut.
 use Rattle.std.specs.Prelude.{ℕ, List, [], ◌∷◌, map, filter, flat_map, count_by, Bool, not, Option, Some, None, is_some}
 use Rattle.std.specs.Option.{option_map}
 use Rattle.ident_core.specs.declared.identity.Identity.{Identity}
@@ -8,33 +8,30 @@ use Rattle.ident_core.specs.declared.kind.Kind.TheVariants as kinds
 use Rattle.ident_core.specs.HeadFields.{HeadFields, zero_key}
 use Rattle.ledger_core.specs.declared.fields.LedgerItem.{LedgerItem}
 use Rattle.ledger_core.specs.LedgerFields.{LedgerPartFields, LedgerFields, ids, newest}
-use Rattle.ident_core.specs.Sets.{has, has_key, key_set}
+use Rattle.ident_core.specs.Sets.{has, key_set}
+use Rattle.place_core.specs.Cuts.{Cut, is_kept}
 use Rattle.universe_core.specs.Jobs.{is_stale}
 use Rattle.universe_core.specs.Groups.{GroupFields, members_of}
 
--- ---- without some issuers
+-- ---- what a cut keeps
 
--- whether an issuer is none of these
-abbrev pub is_other : List (List ℕ) → List ℕ → Bool
-is_other without issuer = not (has_key without issuer)
+-- whether the item's identity is kept
+abbrev pub is_kept_item : Cut → LedgerItem → Bool
+is_kept_item cut i = is_kept cut i.id
 
--- whether an item is of none of these issuers
-abbrev pub is_of_other : List (List ℕ) → LedgerItem → Bool
-is_of_other without i = is_other without i.id.issuer
+-- the part with those of its issuers that are taken
+abbrev pub part_cut : Cut → LedgerPartFields → LedgerPartFields
+part_cut cut p = record p { issuers = filter cut.takes p.issuers }
 
-abbrev pub part_without : List (List ℕ) → LedgerPartFields → LedgerPartFields
-part_without without p = record p { issuers = filter (is_other without) p.issuers }
+-- the ledger with the issuers that are taken, and the identities that are kept
+unfoldable pub ledger_cut : Cut → LedgerFields → LedgerFields
+ledger_cut cut ledger = record { parts = map (part_cut cut) ledger.parts; items = filter (is_kept_item cut) ledger.items }
 
--- the ledger with neither these issuers in its parts nor their identities
-unfoldable pub ledger_without : List (List ℕ) → LedgerFields → LedgerFields
-ledger_without without ledger =
-    record { parts = map (part_without without) ledger.parts; items = filter (is_of_other without) ledger.items }
+-- how many identities aren't kept
+abbrev pub count_left : Cut → LedgerFields → ℕ
+count_left cut ledger = count_by (λ i. not (is_kept_item cut i)) ledger.items
 
--- how many identities these issuers have
-abbrev pub count_left : List (List ℕ) → LedgerFields → ℕ
-count_left without ledger = count_by (λ i. has_key without i.id.issuer) ledger.items
-
--- ---- what is kept
+-- ---- what lasts
 
 -- Whether an item has not expired at a moment, in milliseconds since 1970: it has no date, or one that isn't before it.
 abbrev pub is_lasting : ℕ → LedgerItem → Bool

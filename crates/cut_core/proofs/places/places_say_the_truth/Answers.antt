@@ -1,9 +1,9 @@
 use Rattle.place_core.specs.Places.{place_in}
-use Rattle.piece_core.specs.Cuts.{at_place}
+use Rattle.place_core.specs.Cuts.{at_place}
 use Rattle.cut_core.proofs.Audits.{cut_audit}
 use Rattle.cut_core.proofs.ByPlaces.{at_itself}
 use Rattle.cut_core.proofs.Courses.{cut_verdict}
-use Rattle.cut_core.proofs.Wholes.{whole_verdict}
+use Rattle.cut_core.proofs.Wholes.{whole_verdict, split_verdict}
 use Rattle.cut_core.proofs.places.places_say_the_truth.Goals as goal
 
 pub returns : goal.returns
@@ -13,6 +13,8 @@ returns c = record {
       (at_itself by count x) some asked;
   whole = λ by count whole kept old parts x ss before is e some asked.
       whole_verdict (at_place by count (place_in by count x)) whole kept old parts x ss before is e (at_itself by count x) some asked;
+  split = λ by count whole old moment jobs x parts ss is some asked.
+      split_verdict (at_place by count (place_in by count x)) whole old moment jobs parts x ss is (at_itself by count x) some asked;
   audited =
       λ by count jobs x parts ss agree some asked. cut_audit (at_place by count (place_in by count x)) jobs parts x ss agree
       (at_itself by count x) some asked;

@@ -1,7 +1,7 @@
 use Rattle.cut_core.proofs.Audits.{cut_audit}
 use Rattle.cut_core.proofs.Courses.{cut_verdict}
 use Rattle.cut_core.proofs.Listing.{listed_by_jobs}
-use Rattle.cut_core.proofs.Wholes.{whole_verdict}
+use Rattle.cut_core.proofs.Wholes.{whole_verdict, split_verdict}
 use Rattle.cut_core.proofs.verdicts.cut_parts_say_the_truth.Goals as goal
 
 pub returns : goal.returns
@@ -9,5 +9,6 @@ returns c = record {
   published = cut_verdict;
   whole = whole_verdict;
   audited = cut_audit;
+  split = split_verdict;
   words = λ cut jobs parts x is k. listed_by_jobs cut x k jobs parts is;
 }

@@ -4,7 +4,7 @@ use Rattle.publication_core.proofs.base_laws.one_thing_comes_of_a_rebase.Goals a
 
 pub returns : goal.returns
 returns c = record {
-  outcome = λ ledger moment without a b x y. base_outcome_unique ledger moment without a b x y;
-  some = λ ledger moment without. some_outcome ledger moment without;
-  complete = λ ledger moment without few have. base_made ledger moment without few have;
+  outcome = λ ledger moment cut a b x y. base_outcome_unique ledger moment cut a b x y;
+  some = λ ledger moment cut. some_outcome ledger moment cut;
+  complete = λ ledger moment cut few have. base_made ledger moment cut few have;
 }

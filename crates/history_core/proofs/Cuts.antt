@@ -1,4 +1,4 @@
--- Releases without some issuers.
+-- Releases, cut.
 use Rattle.std.specs.List.{filter, list_any}
 use Rattle.std.proofs.Common.{◌≡◌, ℕ, ◌+◌, List, [], ◌∷◌, ◌++◌, map, length, Bool, true, false, cond, not, ◌&&◌, ◌||◌, refl, sym, ap, ◌∙◌, subst}
 use Rattle.std.proofs.lemmas.Bool.{false≢true, and_parts}
@@ -14,15 +14,16 @@ use Rattle.ident_core.specs.Order.{identity_cmp, octets_cmp}
 use Rattle.ident_core.specs.Coverage.{covers}
 use Rattle.ident_core.specs.Among.{Among}
 use Rattle.ident_core.specs.Sets.{has, has_key}
+use Rattle.place_core.specs.Cuts.{Cut, is_kept, everything}
 use Rattle.ident_core.proofs.Elements.{Among-filter, Among-in_filter, Among-map, Among-in_map, map_agree, bool_same}
 use Rattle.ident_core.proofs.Sets.{Among-from_has, has-from_Among, has_key-from_Among, Among-from_has_key}
 use Rattle.universe_core.specs.Dates.{dates, greatest, until}
 use Rattle.universe_core.specs.Jobs.{Entry, is_stale}
 use Rattle.universe_core.specs.History.{Release, accepted_by, seen, sightings, birth, enrolls_and_lists, is_listed}
 use Rattle.universe_core.specs.Ledgers.{later, last, last_place, item_from, part_from, ledger_of}
-use Rattle.universe_core.specs.Rebases.{is_other, is_of_other, part_without, ledger_without}
+use Rattle.universe_core.specs.Rebases.{is_kept_item, part_cut, ledger_cut}
 use Rattle.history_core.specs.Facts.{IsWider, Widens, IsFormed, IsSound}
-use Rattle.history_core.specs.Bases.{newest_ranges, newest_epoch, kept_by, is_lasting_by, release_without, releases_without, base_head}
+use Rattle.history_core.specs.Bases.{newest_ranges, newest_epoch, kept_by, is_lasting_by, release_cut, releases_cut, base_head}
 use Rattle.history_core.proofs.BaseLedgers.{filter_items}
 use Rattle.history_core.proofs.Kept.{sightings_filter, dates_filter}
 use Rattle.history_core.proofs.Releases.{IsSettled, settled_parts, settled_from, listed-cons, is_listed_by}
@@ -45,12 +46,15 @@ true-and false b h = absurd (false≢true h)
 same_of : (p : Identity → Bool) (xs : List Identity) (x : Identity) → p x ≡ true → has (filter p xs) x ≡ has xs x
 same_of p xs x k = has-filter p xs x ∙ true-and (p x) (has xs x) k
 
-module _ (w : List (List ℕ)) where
+module _ (cut : Cut) where
   abbrev stays : Identity → Bool
-  stays x = is_other w x.issuer
+  stays x = is_kept cut x
+
+  taken : (x : Identity) → stays x ≡ true → cut.takes x.issuer ≡ true
+  taken x k = (and_parts (cut.takes x.issuer) (cut.chooses x) k).0
 
   abbrev less : Release → Release
-  less r = release_without w r
+  less r = release_cut cut r
 
   -- ---- what the releases say together
 
@@ -65,12 +69,12 @@ module _ (w : List (List ℕ)) where
   seen_less (r ∷ rs) =
       ap (λ es. filter (λ (e : Entry). stays e.id) r.shown ++ es) (seen_less rs) ∙ sym (filter-append (λ (e : Entry). stays e.id) r.shown (seen rs))
 
-  key_in : (r : Release) (k : List ℕ) → has_key r.issuers k ≡ true → is_other w k ≡ true → has_key (less r).issuers k ≡ true
-  key_in r k h o = has_key-from_Among (filter (is_other w) r.issuers) k (Among-in_filter (is_other w) r.issuers k (Among-from_has_key r.issuers k h) o)
+  key_in : (r : Release) (k : List ℕ) → has_key r.issuers k ≡ true → cut.takes k ≡ true → has_key (less r).issuers k ≡ true
+  key_in r k h o = has_key-from_Among (filter cut.takes r.issuers) k (Among-in_filter cut.takes r.issuers k (Among-from_has_key r.issuers k h) o)
 
-  key_of : (r : Release) (k : List ℕ) → has_key (less r).issuers k ≡ true → (has_key r.issuers k ≡ true) × (is_other w k ≡ true)
+  key_of : (r : Release) (k : List ℕ) → has_key (less r).issuers k ≡ true → (has_key r.issuers k ≡ true) × (cut.takes k ≡ true)
   key_of r k h =
-      let f = Among-filter (is_other w) r.issuers k (Among-from_has_key (filter (is_other w) r.issuers) k h) in
+      let f = Among-filter cut.takes r.issuers k (Among-from_has_key (filter cut.takes r.issuers) k h) in
       (has_key-from_Among r.issuers k f.0, f.1)
 
   lists_less : (rs : List Release) (x : Identity) → stays x ≡ true
@@ -79,7 +83,7 @@ module _ (w : List (List ℕ)) where
   lists_less (r ∷ rs) x k =
       let same : has_key (less r).issuers x.issuer ≡ has_key r.issuers x.issuer =
       bool_same (has_key (less r).issuers x.issuer) (has_key r.issuers x.issuer)
-      (λ h. (key_of r x.issuer h).0) (λ h. key_in r x.issuer h k) in
+      (λ h. (key_of r x.issuer h).0) (λ h. key_in r x.issuer h (taken x k)) in
       λ i. (r.lists x && same i) || lists_less rs x k i
 
   listed_step : (r : Release) (rs : List Release) (x : Identity) (b : Bool) → stays x ≡ true → has r.accepted x ≡ b
@@ -127,12 +131,12 @@ module _ (w : List (List ℕ)) where
 
   formed_less : (r : Release) → IsFormed r → IsFormed (less r)
   formed_less r h = record {
-    issuers_ascend = IsStrictlySortedBy-filter octets_cmp (is_other w) r.issuers h.issuers_ascend;
+    issuers_ascend = IsStrictlySortedBy-filter octets_cmp cut.takes r.issuers h.issuers_ascend;
     accepted_ascend = IsStrictlySortedBy-filter identity_cmp stays r.accepted h.accepted_ascend;
     enrolled = λ x a.
         let b = both_of stays r.revoked x a in
-        has_key-from_Among (filter (is_other w) r.issuers) x.issuer
-        (Among-in_filter (is_other w) r.issuers x.issuer (Among-from_has_key r.issuers x.issuer (h.enrolled x b.0)) b.1);
+        has_key-from_Among (filter cut.takes r.issuers) x.issuer
+        (Among-in_filter cut.takes r.issuers x.issuer (Among-from_has_key r.issuers x.issuer (h.enrolled x b.0)) (taken x b.1));
     accepted = λ x a. let b = both_of stays r.revoked x a in has_in stays r.accepted x (h.accepted x b.0) b.1;
     shown = λ e a. let f = Among-filter (λ (d : Entry). stays d.id) r.shown e a in has_in stays r.accepted e.id (h.shown e f.0) f.1;
   }
@@ -143,12 +147,11 @@ module _ (w : List (List ℕ)) where
   entry_in : (rs : List Release) (e : Entry) → Among (seen rs) e → stays e.id ≡ true → Among (seen (map less rs)) e
   entry_in rs e a k = subst (λ (es : List Entry). Among es e) (sym (seen_less rs)) (Among-in_filter (λ (d : Entry). stays d.id) (seen rs) e a k)
 
-  listed_stays : (rs : List Release) (x : Identity) → is_listed (map less rs) x ≡ true → stays x ≡ true
-  listed_stays rs x h =
+  listed_stays : (rs : List Release) (x : Identity) → Widens rs → is_listed (map less rs) x ≡ true → stays x ≡ true
+  listed_stays rs x w h =
       let l = is_listed_by (map less rs) x h in
       let m = Among-map less rs l.by l.among in
-      let enrolls = (and_parts (l.by.lists x) (has_key l.by.issuers x.issuer) l.lists).1 in
-      (key_of m.0 x.issuer (ap (λ (z : Release). has_key z.issuers x.issuer) m.2 ∙ enrolls)).1
+      (both_of stays m.0.accepted x (ap (λ (z : Release). has z.accepted x) m.2 ∙ l.accepted (widens_less rs w))).1
 
   module _ (rs : List Release) (sound : IsSound rs) where
     timely_less : (e : Entry) → Among (seen (map less rs)) e → (r : Release) → Among rs r → covers r.ranges e.sighting ≡ true → has_key (less r).issuers e.id.issuer ≡ true
@@ -157,7 +160,7 @@ module _ (w : List (List ℕ)) where
 
     settled_less : (x : Identity) → is_listed (map less rs) x ≡ true → IsSettled (map less rs) x (sightings x (seen (map less rs)))
     settled_less x h =
-        let k : stays x ≡ true = listed_stays rs x h in
+        let k : stays x ≡ true = listed_stays rs x sound.widens h in
         let t = settled_parts rs x (sightings x (seen rs)) (sound.settled x (sym (listed_less rs x k) ∙ h)) in
         record {
           by = less t.by;
@@ -173,7 +176,7 @@ module _ (w : List (List ℕ)) where
       covered = λ e a.
           let n = entry_of rs e a in
           let c = sound.covered e n.0 in
-          (less c.0, Among-in_map less rs c.0 c.1, c.2, key_in c.0 e.id.issuer c.3 n.1);
+          (less c.0, Among-in_map less rs c.0 c.1, c.2, key_in c.0 e.id.issuer c.3 (taken e.id n.1));
       timely = λ e a r i.
           let m = Among-map less rs r i in
           subst (λ (z : Release). covers z.ranges e.sighting ≡ true → has_key z.issuers e.id.issuer ≡ true → has z.accepted e.id ≡ true) m.2 (timely_less e a m.0 m.1);
@@ -190,16 +193,16 @@ module _ (w : List (List ℕ)) where
 
   -- ---- the ledger
 
-  parts_less : (rs : List Release) → map (part_without w) (map part_from rs) ≡ map part_from (map less rs)
+  parts_less : (rs : List Release) → map (part_cut cut) (map part_from rs) ≡ map part_from (map less rs)
   parts_less [] = refl
-  parts_less (r ∷ rs) = ap (λ ps. part_without w (part_from r) ∷ ps) (parts_less rs)
+  parts_less (r ∷ rs) = ap (λ ps. part_cut cut (part_from r) ∷ ps) (parts_less rs)
 
   item_less : (rs : List Release) (x : Identity) → stays x ≡ true → item_from rs x ≡ item_from (map less rs) x
   item_less rs x k = λ i. record { id = x; birth = sym (birth_less rs x k) i; last = sym (last_less rs x k) i; until = sym (until_less rs x k) i }
 
-  items_less : (rs : List Release) → filter (is_of_other w) (map (item_from rs) (accepted_by [] rs)) ≡ map (item_from (map less rs)) (accepted_by [] (map less rs))
+  items_less : (rs : List Release) → filter (is_kept_item cut) (map (item_from rs) (accepted_by [] rs)) ≡ map (item_from (map less rs)) (accepted_by [] (map less rs))
   items_less rs =
-      filter_items (is_of_other w) rs (accepted_by [] rs)
+      filter_items (is_kept_item cut) rs (accepted_by [] rs)
       ∙ map_agree (item_from rs) (item_from (map less rs)) (filter stays (accepted_by [] rs)) (λ x a. item_less rs x (Among-filter stays (accepted_by [] rs) x a).1)
       ∙ ap (map (item_from (map less rs))) (sym (accepted_less [] rs))
 
@@ -215,62 +218,59 @@ module _ (w : List (List ℕ)) where
 
 -- ---- of what comes of it
 
-pub without_sound : (w : List (List ℕ)) (rs : List Release) → IsSound rs → IsSound (releases_without w rs)
-unfolding releases_without
-without_sound w rs sound = sound_less w rs sound
+pub cut_sound : (cut : Cut) (rs : List Release) → IsSound rs → IsSound (releases_cut cut rs)
+unfolding releases_cut
+cut_sound cut rs sound = sound_less cut rs sound
 
--- The ledger of the releases without these issuers is theirs without them.
-pub ledger_without-of : (w : List (List ℕ)) (rs : List Release) → ledger_without w (ledger_of rs) ≡ ledger_of (releases_without w rs)
-unfolding ledger_without ledger_of releases_without
-ledger_without-of w rs = λ i. record { parts = parts_less w rs i; items = items_less w rs i }
+-- The ledger of the releases, cut, is theirs, cut.
+pub ledger_cut-of : (cut : Cut) (rs : List Release) → ledger_cut cut (ledger_of rs) ≡ ledger_of (releases_cut cut rs)
+unfolding ledger_cut ledger_of releases_cut
+ledger_cut-of cut rs = λ i. record { parts = parts_less cut rs i; items = items_less cut rs i }
 
-pub head_without : (w : List (List ℕ)) (rs : List Release) → base_head (releases_without w rs) ≡ base_head rs
-unfolding releases_without
-head_without w rs = λ i. record { kind = kinds.Snapshot; epoch = epoch_less w 0 rs i; parent = zero_key; ranges = ranges_less w [] rs i }
+pub head_cut : (cut : Cut) (rs : List Release) → base_head (releases_cut cut rs) ≡ base_head rs
+unfolding releases_cut
+head_cut cut rs = λ i. record { kind = kinds.Snapshot; epoch = epoch_less cut 0 rs i; parent = zero_key; ranges = ranges_less cut [] rs i }
 
-pub accepted_without : (w : List (List ℕ)) (rs : List Release) → accepted_by [] (releases_without w rs) ≡ filter (λ x. is_other w x.issuer) (accepted_by [] rs)
-unfolding releases_without
-accepted_without w rs = accepted_less w [] rs
+pub accepted_cut : (cut : Cut) (rs : List Release) → accepted_by [] (releases_cut cut rs) ≡ filter (is_kept cut) (accepted_by [] rs)
+unfolding releases_cut
+accepted_cut cut rs = accepted_less cut [] rs
 
-other_is : (b : Bool) → b ≡ false → not b ≡ true
-other_is b h = ap not h
+pub sightings_cut : (cut : Cut) (rs : List Release) (x : Identity) → is_kept cut x ≡ true → sightings x (seen (releases_cut cut rs)) ≡ sightings x (seen rs)
+unfolding releases_cut
+sightings_cut cut rs x h = sightings_less cut rs x h
 
-pub sightings_without : (w : List (List ℕ)) (rs : List Release) (x : Identity) → has_key w x.issuer ≡ false → sightings x (seen (releases_without w rs)) ≡ sightings x (seen rs)
-unfolding releases_without
-sightings_without w rs x h = sightings_less w rs x (other_is (has_key w x.issuer) h)
+pub until_cut : (cut : Cut) (rs : List Release) (x : Identity) → is_kept cut x ≡ true → until x (releases_cut cut rs) ≡ until x rs
+unfolding releases_cut
+until_cut cut rs x h = until_less cut rs x h
 
-pub until_without : (w : List (List ℕ)) (rs : List Release) (x : Identity) → has_key w x.issuer ≡ false → until x (releases_without w rs) ≡ until x rs
-unfolding releases_without
-until_without w rs x h = until_less w rs x (other_is (has_key w x.issuer) h)
+pub listed_cut : (cut : Cut) (rs : List Release) (x : Identity) → is_kept cut x ≡ true → is_listed (releases_cut cut rs) x ≡ is_listed rs x
+unfolding releases_cut
+listed_cut cut rs x h = listed_less cut rs x h
 
-pub listed_without : (w : List (List ℕ)) (rs : List Release) (x : Identity) → has_key w x.issuer ≡ false → is_listed (releases_without w rs) x ≡ is_listed rs x
-unfolding releases_without
-listed_without w rs x h = listed_less w rs x (other_is (has_key w x.issuer) h)
-
-pub has_without : (w : List (List ℕ)) (rs : List Release) (x : Identity) → has_key w x.issuer ≡ false
-    → has (accepted_by [] (releases_without w rs)) x ≡ has (accepted_by [] rs) x
-has_without w rs x h =
-    ap (λ xs. has xs x) (accepted_without w rs) ∙ same_of (λ (y : Identity). is_other w y.issuer) (accepted_by [] rs) x (other_is (has_key w x.issuer) h)
+pub has_cut : (cut : Cut) (rs : List Release) (x : Identity) → is_kept cut x ≡ true
+    → has (accepted_by [] (releases_cut cut rs)) x ≡ has (accepted_by [] rs) x
+has_cut cut rs x h =
+    ap (λ xs. has xs x) (accepted_cut cut rs) ∙ same_of (is_kept cut) (accepted_by [] rs) x h
 
 -- whether it is kept at a moment
-pub kept_without : (moment : ℕ) (w : List (List ℕ)) (rs : List Release) (x : Identity) → has_key w x.issuer ≡ false
-    → has (kept_by (is_lasting_by moment (releases_without w rs)) (releases_without w rs)) x ≡ has (kept_by (is_lasting_by moment rs) rs) x
-kept_without moment w rs x h =
-    has-filter (is_lasting_by moment (releases_without w rs)) (accepted_by [] (releases_without w rs)) x
-    ∙ (λ i. not (is_stale moment (until_without w rs x h i)) && has_without w rs x h i)
+pub kept_cut : (moment : ℕ) (cut : Cut) (rs : List Release) (x : Identity) → is_kept cut x ≡ true
+    → has (kept_by (is_lasting_by moment (releases_cut cut rs)) (releases_cut cut rs)) x ≡ has (kept_by (is_lasting_by moment rs) rs) x
+kept_cut moment cut rs x h =
+    has-filter (is_lasting_by moment (releases_cut cut rs)) (accepted_by [] (releases_cut cut rs)) x
+    ∙ (λ i. not (is_stale moment (until_cut cut rs x h i)) && has_cut cut rs x h i)
     ∙ sym (has-filter (is_lasting_by moment rs) (accepted_by [] rs) x)
 
-pub many_without : (w : List (List ℕ)) (rs : List Release) → length (releases_without w rs) ≡ length rs
-unfolding releases_without
-many_without w rs = length-map rs (release_without w)
+pub many_cut : (cut : Cut) (rs : List Release) → length (releases_cut cut rs) ≡ length rs
+unfolding releases_cut
+many_cut cut rs = length-map rs (release_cut cut)
 
--- ---- without no issuer
+-- ---- all of them
 
 filter-all : {A : Type 0} (xs : List A) → filter (λ (x : A). true) xs ≡ xs
 filter-all [] = refl
 filter-all (x ∷ xs) = ap (λ ys. x ∷ ys) (filter-all xs)
 
-release_all : (r : Release) → release_without [] r ≡ r
+release_all : (r : Release) → release_cut everything r ≡ r
 release_all r = λ i. record {
   epoch = r.epoch;
   trailer = r.trailer;
@@ -282,7 +282,7 @@ release_all r = λ i. record {
   revoked = filter-all r.revoked i;
 }
 
-pub releases_without_none : (rs : List Release) → releases_without [] rs ≡ rs
-unfolding releases_without
-releases_without_none [] = refl
-releases_without_none (r ∷ rs) = λ i. release_all r i ∷ releases_without_none rs i
+pub cut_by_everything : (rs : List Release) → releases_cut everything rs ≡ rs
+unfolding releases_cut
+cut_by_everything [] = refl
+cut_by_everything (r ∷ rs) = λ i. release_all r i ∷ cut_by_everything rs i
