@@ -22,7 +22,7 @@ LOGS = [sha256(b"log %d" % each).digest() for each in range(2)]
 ISSUERS = [sha256(b"issuer %d" % each).digest() for each in range(3)]
 IN_A_PAGE, PAGES = 300, 5
 """How many entries a page has at most, and how many pages each log has."""
-MOST = 120
+MOST = 1800
 """For how many seconds something is waited for."""
 
 
@@ -85,7 +85,13 @@ def entries_of(epoch: int, in_a_page: int) -> list[Any]:
     places = [count * epoch + each for each in range(count)]
     half = len(places) // 2
     logs = [(log, places[at * half : (at + 1) * half]) for at, log in enumerate(sorted(LOGS))]
-    return [Entry(ISSUERS[each % 3], serial(each), log, T + each) for log, of_log in logs for each in of_log]
+    return [entry_of(each, log) for log, of_log in logs for each in of_log]
+
+
+def entry_of(place: int, log: bytes) -> Any:
+    """An entry; one of a hundred can't be read."""
+    leaf = b"\0\7" if place % 100 == 7 else None
+    return Entry(ISSUERS[place % 3], serial(place), log, T + place, leaf)
 
 
 def job_of(epoch: int, in_a_page: int) -> Any:

@@ -5,12 +5,13 @@ import os
 import signal
 import subprocess
 from collections.abc import Iterable
+from dataclasses import replace
 from pathlib import Path
 
 import pytest
 
 from fleet.plan import HEAD, MADE
-from fleet.tests.made_epochs import LOGS, World, make_world, page_of, program, wait_until
+from fleet.tests.made_epochs import LOGS, PROJECT, World, make_world, page_of, program, wait_until
 
 
 def gathered(world: World, folder: Path) -> Path:
@@ -62,8 +63,16 @@ def test_it_makes_what_one_machine_makes(first: World, tmp_path: Path) -> None:
     assert not list(left(first))
 
 
-def test_a_second_epoch_is_a_delta(first: World, tmp_path: Path) -> None:
-    second = make_world(tmp_path, 2, first)
+def adopted(world: World, folder: Path) -> World:
+    """An epoch as one that was made elsewhere."""
+    files = [world.folder / "whole" / name for name in ("ledger", "store", "job")]
+    subprocess.run([PROJECT / "fleet" / "adopt.py", folder, *files], check=True)
+    return replace(world, folder=folder / "1")
+
+
+@pytest.mark.parametrize("is_adopted", [False, True])
+def test_a_second_epoch_is_a_delta(first: World, tmp_path: Path, is_adopted: bool) -> None:
+    second = make_world(tmp_path, 2, adopted(first, tmp_path / "adopted") if is_adopted else first)
     done = second.run()
     assert done.returncode == 0, done.stderr
     part, ledger, store = (tmp_path / name for name in ("part", "ledger", "store"))
@@ -74,7 +83,7 @@ def test_a_second_epoch_is_a_delta(first: World, tmp_path: Path) -> None:
     assert made["whole/job"] == second.job.bytes()
     assert all(made[f"whole/{file.name}"] == file.read_bytes() for file in (part, ledger, store))
     said = json.loads(made["published.json"])["said"]["whole"]
-    assert (said["epoch"], said["part"], said["accepted"]) == (2, 1, 3000)
+    assert (said["epoch"], said["part"], said["accepted"]) == (2, 1, 2970)
 
 
 def test_killed_tasks_are_run_again(first: World, tmp_path: Path) -> None:
