@@ -8,6 +8,7 @@ Prints a line for each run: what was done to it, its seconds, how many tasks wer
 has the bytes of a run on this machine. The status is 0 where all have, and no late task changed a file.
 """
 
+import json
 import os
 import signal
 import subprocess
@@ -20,7 +21,8 @@ from pathlib import Path
 HERE = Path(__file__).resolve().parent
 sys.path[:0] = [str(HERE.parent), str(HERE.parent / "tools"), str(HERE.parent / "python")]
 
-from fleet.plan import MADE  # noqa: E402
+from clubcard.placing import digest_of  # noqa: E402
+from fleet.plan import PUBLISHED  # noqa: E402
 from fleet.tests.made_epochs import MOST, World, make_world, wait_until  # noqa: E402
 
 
@@ -47,9 +49,9 @@ def plain(world: World) -> None:
     assert begin(world).wait(MOST) == 0
 
 
-def host_dies(world: World) -> None:
+def host_dies(world: World, command: str = "gather") -> None:
     """the host of a task dies"""
-    world.order("hold-gather")
+    world.order(f"hold-{command}")
     running = begin(world)
     host = held(world)
     cluster("kill-node", host)
@@ -58,16 +60,28 @@ def host_dies(world: World) -> None:
 
 
 def late(world: World) -> None:
-    """Lets the task go on that waits, behind the end of the run."""
+    """Lets the task go on that waits, behind the end of the run, and waits for the end of all that is late."""
     before, world_bytes = times(world), bytes_of(world)
+    assert is_worked_in(world.folder), "no task is late"
     world.order("go")
-    time.sleep(5)
+    wait_until("late tasks end", lambda: not is_worked_in(world.folder))
     assert (times(world), bytes_of(world)) == (before, world_bytes), "a late task changed a file"
 
 
-def goes_on_late(world: World, lose: str, regain: str) -> None:
+def is_worked_in(folder: Path) -> bool:
+    """Whether a process of any host is in a folder."""
+    for link in Path("/proc").glob("[0-9]*/cwd"):
+        try:
+            if os.readlink(link) == str(folder):
+                return True
+        except OSError:
+            continue
+    return False
+
+
+def goes_on_late(world: World, lose: str, regain: str, command: str) -> None:
     """A task goes on behind the end of the run, on a host that was lost."""
-    world.order("hold-gather")
+    world.order(f"hold-{command}")
     running = begin(world)
     host = held(world)
     cluster(lose, host)
@@ -78,22 +92,22 @@ def goes_on_late(world: World, lose: str, regain: str) -> None:
         cluster(regain, host)
 
 
-def daemon_dies(world: World) -> None:
+def daemon_dies(world: World, command: str = "gather") -> None:
     """slurmd dies, its task goes on late"""
-    goes_on_late(world, "kill-slurmd", "boot")
+    goes_on_late(world, "kill-slurmd", "boot", command)
 
 
-def host_is_cut_off(world: World) -> None:
+def host_is_cut_off(world: World, command: str = "gather") -> None:
     """the host is cut off, its task goes on late"""
-    goes_on_late(world, "cut", "mend")
+    goes_on_late(world, "cut", "mend", command)
 
 
-def workflow_dies(world: World) -> None:
+def workflow_dies(world: World, number: int = signal.SIGKILL) -> None:
     """the workflow is killed, and begun again at once"""
     world.order("slow", "3")
     running = begin(world)
     wait_until("a piece is made", lambda: any(world.folder.glob("pieces/*/*.made")))
-    kill(running)
+    kill(running, number)
     assert begin(world).wait(MOST) == 0
 
 
@@ -111,22 +125,28 @@ def both(world: World) -> None:
         cluster("mend", host)
 
 
-def kill(running: "subprocess.Popen[bytes]") -> None:
+def kill(running: "subprocess.Popen[bytes]", number: int = signal.SIGKILL) -> None:
     """Kills snakemake, in whose place `run.py` ran: the child of cluster.sh's last command."""
     found = subprocess.run(["ps", "-o", "pid=", "--ppid", str(running.pid)], stdout=subprocess.PIPE, check=True).stdout
-    for number in found.split():
-        os.kill(int(number), signal.SIGKILL)
+    for child in found.split():
+        os.kill(int(child), number)
     running.wait()
+
+
+def published(world: World) -> list[str]:
+    """The names of all files that are published, and of what names them."""
+    return [*json.loads((world.folder / PUBLISHED).read_text())["files"], PUBLISHED]
 
 
 def times(world: World) -> dict[str, tuple[int, int]]:
     """The number of each file, and when it was written. Snakemake touches records alone."""
-    files = [*world.folder.glob("pieces/*/*/*.job"), *(world.folder / "whole" / name for name in MADE)]
+    files = [*world.folder.glob("pieces/*/*/*.job"), *(world.folder / name for name in published(world))]
     return {str(path): (path.stat().st_ino, path.stat().st_mtime_ns) for path in files}
 
 
-def bytes_of(world: World) -> list[bytes]:
-    return [(world.folder / name).read_bytes() for name in [*(f"whole/{name}" for name in MADE), "published.json"]]
+def bytes_of(world: World) -> dict[str, bytes | None]:
+    """The SHA-256 of each of these."""
+    return {name: digest_of(world.folder / name) for name in published(world)}
 
 
 def wait_for_hosts() -> None:
@@ -139,9 +159,9 @@ def wait_for_hosts() -> None:
     wait_until("all hosts are idle", are_idle)
 
 
-def tried(fault: Callable[[World], None], top: Path, wanted: list[bytes]) -> bool:
+def tried(what: str, fault: Callable[[World], None], world: World, wanted: dict[str, bytes | None]) -> bool:
     """One run with a fault."""
-    world, start = make_world(top / fault.__name__), time.monotonic()
+    start = time.monotonic()
     try:
         fault(world)
         said = "the same bytes" if bytes_of(world) == wanted else "OTHER BYTES"
@@ -149,12 +169,13 @@ def tried(fault: Callable[[World], None], top: Path, wanted: list[bytes]) -> boo
         said = f"FAILED: {failed}; see {world.epoch.parent / 'log'}"
     took = time.monotonic() - start
     tasks = (world.epoch.parent / "log").read_text(errors="replace").count("Submitted ")
-    print(f"| {fault.__doc__} | {took:.0f} s | {tasks} tasks | {said} |", flush=True)
+    print(f"| {what} | {took:.0f} s | {tasks} tasks | {said} |", flush=True)
+    wait_for_hosts()
     return said == "the same bytes"
 
 
 def main() -> None:
-    faults = [plain, host_dies, daemon_dies, host_is_cut_off, workflow_dies, both]
+    faults: list[Callable[[World], None]] = [plain, host_dies, daemon_dies, host_is_cut_off, workflow_dies, both]
     named = [fault for fault in faults if not sys.argv[1:] or fault.__name__ in sys.argv[1:]]
     top = Path(tempfile.mkdtemp(prefix="fleet-"))
     # munged wants everybody to see its socket.
@@ -168,8 +189,7 @@ def main() -> None:
         cluster("start", "3")
         same = True
         for fault in named:
-            same = tried(fault, top, bytes_of(here)) and same
-            wait_for_hosts()
+            same = tried(str(fault.__doc__), fault, make_world(top / fault.__name__), bytes_of(here)) and same
     finally:
         cluster("stop")
     sys.exit(0 if same else 1)

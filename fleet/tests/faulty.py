@@ -6,6 +6,7 @@
     lose-cut       leaves the largest piece without its records
     lose-merge     leaves the largest piece out
     slow           waits before each `gather` for the seconds in it; stays
+    fail           fails each call with a word that has its text in it; stays
 """
 
 import os
@@ -41,6 +42,8 @@ def main() -> None:
     command, faults, program = sys.argv[1], Path(os.environ["FAULTS"]), os.environ["FAULTY_PROGRAM"]
     if command == "gather" and (faults / "slow").exists():
         time.sleep(float((faults / "slow").read_text()))
+    if (faults / "fail").exists() and any((faults / "fail").read_text() in word for word in sys.argv):
+        sys.exit("a fault was ordered")
     if met(faults / f"hold-{command}"):
         (faults / "held").write_text(socket.gethostname())
         while not (faults / "go").exists():
