@@ -3,9 +3,10 @@
 import re
 from pathlib import Path
 
+from clubcard.places_table import read_places
 from clubcard.tables import Table, read_config
 
-from .plan import MOST_NAMES, PUBLISHED, Before, Log, Places, Plan, number_name, pages_in, program_of, test
+from .plan import MOST_NAMES, PUBLISHED, Before, Log, Plan, pages_in, program_of, test
 
 _KEYS = "epoch moment program workers pages places before crl log".split()
 _MOST = (1 << 64) - 1
@@ -28,7 +29,7 @@ def load(path: Path) -> Plan:
         most=table.number("pages", 256, 1, MOST_NAMES),
         crls=crls,
         logs=tuple(sorted(logs, key=lambda log: log.log)),
-        places=_places(table) if "places" in table.values else None,
+        places=read_places(table),
         before=before,
         seen={file: _seen(file) for file in read},
     )
@@ -64,21 +65,6 @@ def _log(table: Table, base: Path) -> Log:
     if low > high:
         raise table.fault("its range ends before it begins: exchange `from` and `to`")
     return Log(_key(table, "log"), low, high, pages_in(base / table.text("pages", '"pages"')))
-
-
-def _places(top: Table) -> Places:
-    table = Table(f"{top.place}: [places]", top.value("places", dict, "[places], a table"))
-    table.only(("by", "count", "again"))
-    by = table.text("by", '"issuer"')
-    if by not in ("issuer", "identity"):
-        raise table.wrong("by", f'{by!r} is neither "issuer" nor "identity": write by = "issuer"')
-    table.value("count", int, "16")
-    count = table.number("count", 16, 1, MOST_NAMES)
-    again = Table(f"{table.place}: again", table.value("again", dict, "{ 0003 = 8 }", {}))
-    if again.values and by != "issuer":
-        raise table.wrong("again", "identities aren't cut by identity again: give `count` more")
-    again.only([number_name(number) for number in range(count)])
-    return Places(by, count, {name: again.number(name, 8, 2, MOST_NAMES) for name in sorted(again.values)})
 
 
 def _before(top: Table, base: Path) -> Before:

@@ -8,6 +8,7 @@ from pathlib import Path
 from typing import Any
 
 from clubcard.jobs import MOST_CRLS, MOST_RANGES
+from clubcard.places import WHOLE, Places, names_of, number_name
 
 from .made import File
 
@@ -19,8 +20,6 @@ HEAD = "head.job"
 BARE = "piece.job"
 """A job of the epoch with nothing in it, behind which the entries of a piece stand."""
 PUBLISHED = "published.json"
-WHOLE = "whole"
-"""The one place where a history isn't cut."""
 MADE = ("job", "part", "ledger", "store")
 """What is made of each place."""
 MOST_NAMES = 1024
@@ -39,30 +38,6 @@ class Log:
     low: int
     high: int
     pages: tuple[str, ...]
-
-
-@dataclass(frozen=True)
-class Places:
-    """Into how many histories one is cut, each with a chain of its own, and by what: the word of `cut`."""
-
-    by: str
-    count: int
-    again: Mapping[str, int]
-    """Of each place that is cut again, by identity, into how many."""
-
-    def __str__(self) -> str:
-        again = "".join(f", {name} again into {count}" for name, count in self.again.items())
-        return f"{self.count} by {self.by}{again}"
-
-    def groups(self) -> list[list[str]]:
-        """The names of what each place is cut into, or its own."""
-        places = [number_name(number) for number in range(self.count)]
-        return [
-            [f"{place}.{number_name(number)}" for number in range(self.again[place])]
-            if place in self.again
-            else [place]
-            for place in places
-        ]
 
 
 @dataclass(frozen=True)
@@ -148,7 +123,7 @@ class Plan:
 
     def names(self) -> list[str]:
         """The names of all places in order."""
-        return [WHOLE] if self.places is None else [name for names in self.places.groups() for name in names]
+        return names_of(self.places)
 
     def records(self) -> list[str]:
         """By their names, the records of all that is made."""
@@ -158,11 +133,6 @@ class Plan:
     def folders(self) -> list[str]:
         """The folders of what is made."""
         return [".", *self.names(), *(f"pieces/{log.log}" for log in self.logs), *self.pieces()]
-
-
-def number_name(number: int) -> str:
-    """The name of a place or a piece by its number."""
-    return f"{number:04}"
 
 
 def piece_of(log: str, number: str) -> str:

@@ -16,14 +16,14 @@ from dataclasses import asdict
 from functools import partial
 from pathlib import Path
 
+from clubcard.cutting import Lost, divide
 from clubcard.engine import Engine, EngineError
 from clubcard.jobs import JobWriter
+from clubcard.places import WHOLE, Places
 
 from .made import Differs, Record, compared, made_in, own_name, put_made, put_text, record_of
-from .plan import BARE, HEAD, HEADS, MADE, PUBLISHED, WHOLE, Places, Plan, at_place, head_of, piece_of, read_plan
+from .plan import BARE, HEAD, HEADS, MADE, PUBLISHED, Plan, at_place, head_of, piece_of, read_plan
 
-RANGE = 49
-"""How many bytes the record of a range has in a job."""
 COUNTED = ("unread", "uncovered", "unenrolled", "late", "accepted")
 """Of these each entry is one."""
 SUMS = (*COUNTED, "universe", "revoked")
@@ -42,36 +42,19 @@ def heads(plan: Plan) -> None:
         for issuer, crl in plan.crls:
             job.crl(bytes.fromhex(issuer), Path(crl).read_bytes())
     if plan.places is not None:
-        empty = _size(owns[BARE]) + RANGE * len(plan.logs)
-        owns |= _divided(plan.program, plan.places, owns[HEAD], head_of, empty, True)
+        owns |= _divided(plan.program, plan.places, owns[HEAD], head_of)
     put_made(HEADS, owns, {}, {})
 
 
-def _divided(
-    program: str, places: Places, job: Path, path: Callable[[str], str], empty: int, has_crls: bool
-) -> dict[str, Path]:
-    """The own names of what each place has of a job with CRLs or entries alone, by the paths of places. Without these
-    it has `empty` bytes."""
-    groups = [list(map(path, names)) for names in places.groups()]
-    owns = _cut(program, places.by, job, [paths[0] for paths in groups], empty, has_crls)
-    for paths in groups:
-        if len(paths) > 1:
-            large = owns.pop(paths[0])
-            owns |= _cut(program, "identity", large, paths, empty, has_crls)
-            large.unlink()
-    return owns
-
-
-def _cut(program: str, by: str, job: Path, paths: Sequence[str], empty: int, has_crls: bool) -> dict[str, Path]:
-    """The own names of what each place has of a job. Tests by their bytes that nothing is lost, which would be silent:
-    by issuer each CRL has one place, by identity it has all, and an entry has one."""
-    owns = {path: own_name(Path(path)) for path in paths}
-    Engine(program).cut(by, job, list(owns.values()))
-    times = len(owns) if has_crls and by == "identity" else 1
-    wanted, found = times * (_size(job) - empty), sum(_size(own) - empty for own in owns.values())
-    if found != wanted:
-        raise Differs(f"{job}: its places have {found} bytes of it in place of {wanted}")
-    return owns
+def _divided(program: str, places: Places, job: Path, path: Callable[[str], str]) -> dict[str, Path]:
+    """The own names of what each place has of a job, by the paths of places."""
+    owns = {name: own_name(Path(path(name))) for name in places.names()}
+    # What is cut again lies in the first of its places' folders.
+    owns |= {large: own_name(Path(path(f"{large}.0000"))) for large in places.again}
+    divide(Engine(program), places, job, owns)
+    for large in places.again:
+        owns.pop(large).unlink()
+    return {path(name): own for name, own in owns.items()}
 
 
 def _size(path: Path) -> int:
@@ -86,7 +69,7 @@ def gather(plan: Plan, log: str, number: str) -> None:
     if plan.places is None:
         owns = {at_place(piece, WHOLE): own}
     else:
-        owns = _divided(plan.program, plan.places, own, partial(at_place, piece), files[BARE].size, False)
+        owns = _divided(plan.program, plan.places, own, partial(at_place, piece))
         own.unlink()
     put_made(piece, owns, asdict(said), of)
 
@@ -180,7 +163,7 @@ TASKS = {task.__name__: task for task in (heads, gather, merge, part, audit, pub
 def main(words: Sequence[str]) -> None:
     try:
         TASKS[words[0]](read_plan(), *words[1:])  # type: ignore[operator]
-    except (Differs, EngineError, OSError) as fault:
+    except (Differs, Lost, EngineError, OSError) as fault:
         sys.exit(f"fleet: {' '.join(words)}: {fault}")
 
 
