@@ -1,16 +1,20 @@
 """manifest.json: what a site publishes, for clients to verify and follow.
 
 Lengths are bytes, times milliseconds since 1970 UTC (in the file ISO 8601), keys 32 bytes (in the file hexadecimal).
-The file is JSON in UTF-8 with sorted keys, and each manifest has one text.
+The file is JSON in UTF-8 with sorted keys, and each manifest has one text. Where the history is cut into places it is
+of format 2, and has `places` and `chains` in place of `parts` and `store`.
 """
 
 import json
 from collections.abc import Mapping
 from dataclasses import dataclass
 
+from .places import WHOLE, Places, PlacesError
 from .times import from_iso, to_iso
 
 FORMAT = 1
+PLACED = 2
+"""The format of a manifest with places."""
 MAX_PARTS = 64
 _KEY = 32
 
@@ -56,8 +60,19 @@ class Issuer:
 
 
 @dataclass(frozen=True)
+class Chain:
+    """What is published of a place: parts from the snapshot on, and the store that they make together."""
+
+    place: str
+    parts: tuple[Part, ...]
+    store_length: int
+    store_sha256: bytes
+
+
+@dataclass(frozen=True)
 class Manifest:
-    """All that is published: parts from the snapshot on, and the store that they make together."""
+    """All that is published. Where the history isn't cut the parts and the store are those of its one chain; where it
+    is there are none, and each place has a chain."""
 
     name: str
     generation: int
@@ -70,6 +85,16 @@ class Manifest:
     coverage: tuple[Coverage, ...]
     issuers: tuple[Issuer, ...]
     next_key: str | None
+    places: Places | None = None
+    placed: tuple[Chain, ...] = ()
+    """The chains of all places, in their order."""
+
+    @property
+    def chains(self) -> tuple[Chain, ...]:
+        """The chains of all places, or the one."""
+        if self.places is not None:
+            return self.placed
+        return (Chain(WHOLE, self.parts, self.store_length, self.store_sha256),)
 
 
 def part_path(sha256: bytes) -> str:
@@ -98,21 +123,34 @@ def _part_json(part: Part) -> dict[str, object]:
     }
 
 
+def _chain_json(chain: Chain) -> dict[str, object]:
+    return {
+        "parts": [_part_json(part) for part in chain.parts],
+        "store": {"length": chain.store_length, "sha256": chain.store_sha256.hex()},
+    }
+
+
+def _chains_json(manifest: Manifest) -> dict[str, object]:
+    """The members that are of chains, and the format that they have."""
+    if manifest.places is None:
+        return {"format": FORMAT, **_chain_json(manifest.chains[0])}
+    chains = [dict[str, object](place=chain.place, **_chain_json(chain)) for chain in manifest.placed]
+    return {"format": PLACED, "places": manifest.places.members(), "chains": chains}
+
+
 def to_json(manifest: Manifest) -> bytes:
     """The manifest's one text: logs and issuers ascending by their keys."""
     coverage = [
         {"log": held.log.hex(), "name": held.name, "from": held.low, "to": held.high}
         for held in sorted(manifest.coverage, key=lambda held: held.log)
     ]
-    members = {
-        "format": FORMAT,
+    members: dict[str, object] = {
+        **_chains_json(manifest),
         "name": manifest.name,
         "generation": manifest.generation,
         "epoch": manifest.epoch,
         "moment": to_iso(manifest.moment),
         "valid_until": to_iso(manifest.valid_until),
-        "parts": [_part_json(part) for part in manifest.parts],
-        "store": {"length": manifest.store_length, "sha256": manifest.store_sha256.hex()},
         "coverage": coverage,
         "issuers": [_issuer_json(issuer) for issuer in sorted(manifest.issuers, key=lambda held: held.issuer)],
         "next_key": manifest.next_key,
@@ -129,7 +167,7 @@ class _Members:
         self.members = value
         self.where = where
 
-    def _get(self, name: str) -> object:
+    def member(self, name: str) -> object:
         if name not in self.members:
             raise ManifestError(f"{self.where}.{name} is missing")
         return self.members[name]
@@ -138,19 +176,19 @@ class _Members:
         return ManifestError(f"{self.where}.{name} {what}")
 
     def text(self, name: str) -> str:
-        value = self._get(name)
+        value = self.member(name)
         if not isinstance(value, str):
             raise self.fault(name, "is no string")
         return value
 
     def number(self, name: str) -> int:
-        value = self._get(name)
+        value = self.member(name)
         if not isinstance(value, int) or isinstance(value, bool) or not 0 <= value < 1 << 64:
             raise self.fault(name, "is no number from 0 to 2^64 - 1")
         return value
 
     def truth(self, name: str) -> bool:
-        value = self._get(name)
+        value = self.member(name)
         if not isinstance(value, bool):
             raise self.fault(name, "is neither true nor false")
         return value
@@ -173,16 +211,16 @@ class _Members:
         return moment
 
     def is_null(self, name: str) -> bool:
-        return self._get(name) is None
+        return self.member(name) is None
 
     def items(self, name: str) -> list["_Members"]:
-        value = self._get(name)
+        value = self.member(name)
         if not isinstance(value, list):
             raise self.fault(name, "is no array")
         return [_Members(item, f"{self.where}.{name}[{place}]") for place, item in enumerate(value)]
 
     def inner(self, name: str) -> "_Members":
-        return _Members(self._get(name), f"{self.where}.{name}")
+        return _Members(self.member(name), f"{self.where}.{name}")
 
 
 def _part_of(members: _Members) -> Part:
@@ -210,16 +248,38 @@ def _issuer_of(members: _Members) -> Issuer:
     return Issuer(members.key("issuer"), members.text("name"), enrolled, enrolled_at, reason)
 
 
-def _check_chain(manifest: Manifest) -> None:
+def _check_chain(chain: Chain, epoch: int, where: str) -> None:
     """Whether the parts are a chain: a snapshot, then deltas with rising epochs, to the manifest's own."""
-    kinds = [part.kind for part in manifest.parts]
-    epochs = [part.epoch for part in manifest.parts]
+    kinds = [part.kind for part in chain.parts]
+    epochs = [part.epoch for part in chain.parts]
     if not 1 <= len(kinds) <= MAX_PARTS:
-        raise ManifestError(f"manifest.parts isn't 1 to {MAX_PARTS} parts")
+        raise ManifestError(f"{where}.parts isn't 1 to {MAX_PARTS} parts")
     if kinds[0] != "snapshot" or "snapshot" in kinds[1:]:
-        raise ManifestError("manifest.parts isn't a snapshot and then deltas")
-    if any(left >= right for left, right in zip(epochs, epochs[1:])) or epochs[-1] != manifest.epoch:
-        raise ManifestError("manifest.parts has epochs that don't rise to the manifest's")
+        raise ManifestError(f"{where}.parts isn't a snapshot and then deltas")
+    if any(left >= right for left, right in zip(epochs, epochs[1:])) or epochs[-1] != epoch:
+        raise ManifestError(f"{where}.parts has epochs that don't rise to the manifest's")
+
+
+def _chain_of(members: _Members, place: str, epoch: int) -> Chain:
+    store = members.inner("store")
+    parts = tuple(_part_of(item) for item in members.items("parts"))
+    chain = Chain(place, parts, store.number("length"), store.key("sha256"))
+    _check_chain(chain, epoch, members.where)
+    return chain
+
+
+def _placed_of(members: _Members, epoch: int) -> tuple[Places, tuple[Chain, ...]]:
+    """The plan of places, and the chain of each in their order. All have parts of the same epochs."""
+    try:
+        places = Places.of_members(members.member("places"))
+    except PlacesError as fault:
+        raise members.fault("places", str(fault)) from None
+    chains = tuple(_chain_of(item, item.text("place"), epoch) for item in members.items("chains"))
+    if [chain.place for chain in chains] != places.names():
+        raise members.fault("chains", f"aren't those of {places}: {len(places.names())} in the order of their names")
+    if len({tuple((part.kind, part.epoch) for part in chain.parts) for chain in chains}) > 1:
+        raise members.fault("chains", "have parts of different epochs")
+    return places, chains
 
 
 def from_json(octets: bytes) -> Manifest:
@@ -229,21 +289,25 @@ def from_json(octets: bytes) -> Manifest:
     except (UnicodeDecodeError, ValueError, RecursionError):
         raise ManifestError("the manifest isn't JSON in UTF-8") from None
     members = _Members(value, "manifest")
-    if members.number("format") != FORMAT:
-        raise ManifestError(f"manifest.format is {members.number('format')}, and this program reads {FORMAT}")
-    store = members.inner("store")
-    manifest = Manifest(
+    form, epoch = members.number("format"), members.number("epoch")
+    if form not in (FORMAT, PLACED):
+        raise ManifestError(f"manifest.format is {form}, and this program reads {FORMAT} and {PLACED}")
+    if form == FORMAT and "places" in members.members:
+        raise members.fault("places", f"stands in a manifest of format {FORMAT}, which has none")
+    places, placed = _placed_of(members, epoch) if form == PLACED else (None, ())
+    whole = _chain_of(members, WHOLE, epoch) if places is None else Chain(WHOLE, (), 0, b"")
+    return Manifest(
         name=members.text("name"),
         generation=members.number("generation"),
-        epoch=members.number("epoch"),
+        epoch=epoch,
         moment=members.time("moment"),
         valid_until=members.time("valid_until"),
-        parts=tuple(_part_of(item) for item in members.items("parts")),
-        store_length=store.number("length"),
-        store_sha256=store.key("sha256"),
+        parts=whole.parts,
+        store_length=whole.store_length,
+        store_sha256=whole.store_sha256,
         coverage=tuple(_coverage_of(item) for item in members.items("coverage")),
         issuers=tuple(_issuer_of(item) for item in members.items("issuers")),
         next_key=None if members.is_null("next_key") else members.text("next_key"),
+        places=places,
+        placed=placed,
     )
-    _check_chain(manifest)
-    return manifest

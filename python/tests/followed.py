@@ -109,7 +109,7 @@ def made_history(folder: Path) -> History:
             assert release is not None
             text = (folder / "site" / "manifest.json").read_bytes()
             signature = (folder / "site" / "manifest.json.minisig").read_bytes()
-            history.epochs.append(Epoch(text, signature, release.store.read_bytes()))
+            history.epochs.append(Epoch(text, signature, release.chains[0].store.read_bytes()))
     world.state.close()
     return history
 

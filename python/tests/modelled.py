@@ -141,7 +141,7 @@ class Model:
     def compare_ledger(self, world: Spooled) -> None:
         newest = chain.newest(world.state)
         assert newest is not None
-        ledger = files.read_ledger(newest.ledger.read_bytes())
+        ledger = files.read_ledger(newest.places["whole"].ledger.read_bytes())
         assert [part.epoch for part in ledger.parts] == [part.epoch for part in self.parts]
         for held, part in zip(ledger.parts, self.parts):
             assert held.issuers == sorted(key_of(issuer) for issuer in part.issuers)

@@ -125,7 +125,8 @@ class World:
         row, store = self.rows[-1], b"store" * len(self.parts)
         digest = hashlib.sha256(store).digest()
         path = self.state.folder / "chain" / "store"
-        return chain.Release(row.generation, row.epoch, row.moment, tuple(self.parts), path, len(store), digest, row)
+        whole = chain.PlaceRow("whole", tuple(self.parts), path, len(store), digest)
+        return chain.Release(row.generation, row.epoch, row.moment, (whole,), row)
 
 
 def world_of(folder: Path, monkeypatch: pytest.MonkeyPatch) -> tuple[Config, World]:

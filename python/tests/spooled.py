@@ -12,6 +12,7 @@ from typing import Any
 
 from clubcard import Query, Sighting, Store, Verdict
 from clubcard.engine import Engine
+from clubcard.fleet import Fleet
 from clubcard.jobs import entry_record
 from clubcard.progress import Silent
 from clubcard.publish import chain
@@ -198,7 +199,9 @@ class Spooled:
             Query(key_of(issuer), serial, tuple(Sighting(log_of(log), time) for log, time in sightings))
             for (issuer, serial), sightings in queries
         ]
-        answers = Store.from_file(release.store).query_each(made)
+        stores = {each.name: each.store.read_bytes() for each in release.chains}
+        held: Store | Fleet = Fleet(release.places, stores) if release.places else Store(stores["whole"])
+        answers = held.query_each(made)
         assert all(isinstance(answer, Verdict) for answer in answers)
         return [answer.name.lower().replace("_", "-") for answer in answers]
 

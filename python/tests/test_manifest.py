@@ -8,7 +8,8 @@ import pytest
 from hypothesis import given, settings
 from hypothesis import strategies as st
 
-from clubcard.manifest import Coverage, Issuer, Manifest, ManifestError, Part, from_json, to_json
+from clubcard.manifest import Chain, Coverage, Issuer, Manifest, ManifestError, Part, from_json, to_json
+from clubcard.places import Places
 from clubcard.times import from_iso, to_iso
 
 LOG, OTHER = b"\xaa" * 32, b"\x0b" * 32
@@ -118,7 +119,7 @@ def changed(place: list[Any], value: Any) -> bytes:
 
 
 WRONG = [
-    (["format"], 2, "format is 2"),
+    (["format"], 3, "format is 3"),
     (["format"], True, "format is no number"),
     (["name"], 7, "name is no string"),
     (["name"], ..., "name is missing"),
@@ -189,3 +190,45 @@ def test_no_times() -> None:
     assert from_iso("1970-01-01") == 0
     assert from_iso("1970-01-01T01:00:00+01:00") == 0
     assert from_iso("1970-01-01T00:00:00.0015Z") == 1
+
+
+# ---------- places
+PLACES = Places("issuer", 2, {"0001": 2})
+PLACED = replace(
+    from_json(to_json(MANIFEST)),
+    parts=(),
+    store_length=0,
+    store_sha256=b"",
+    places=PLACES,
+    placed=tuple(Chain(name, MANIFEST.parts, 330, LOG) for name in PLACES.names()),
+)
+
+
+def test_places() -> None:
+    """A manifest with places has one text, of format 2, and no other chain."""
+    text = to_json(PLACED)
+    members = json.loads(text)
+    assert from_json(text) == PLACED and to_json(from_json(text)) == text
+    assert members["format"] == 2 and members["places"] == {"by": "issuer", "count": 2, "again": {"0001": 2}}
+    assert [chain["place"] for chain in members["chains"]] == ["0000", "0001.0000", "0001.0001"]
+    assert not {"parts", "store"} & set(members) and not {"places", "chains"} & set(json.loads(to_json(MANIFEST)))
+    assert [chain.place for chain in MANIFEST.chains] == ["whole"] and MANIFEST.chains[0].parts == MANIFEST.parts
+
+
+@given(st.integers(1, 5), st.dictionaries(st.integers(0, 4), st.integers(2, 4), max_size=2), st.booleans())
+def test_any_plan(count: int, again: dict[int, int], by_identity: bool) -> None:
+    cut = {f"{number:04}": into for number, into in again.items() if number < count}
+    places = Places("identity", count) if by_identity else Places("issuer", count, cut)
+    chains = tuple(Chain(name, MANIFEST.parts, number, LOG) for number, name in enumerate(places.names()))
+    manifest = replace(PLACED, places=places, placed=chains)
+    assert from_json(to_json(manifest)) == manifest
+    for wrong in (chains[1:], chains + chains[:1], (replace(chains[0], place="0009"), *chains[1:])):
+        with pytest.raises(ManifestError, match="manifest.chains aren't those of"):
+            from_json(to_json(replace(manifest, placed=wrong)))
+
+
+def test_chains_of_different_epochs() -> None:
+    other = (Part("snapshot", 8, 300, LOG), Part("delta", 9, 20, OTHER))
+    wrong = replace(PLACED, placed=(replace(PLACED.placed[0], parts=other), *PLACED.placed[1:]))
+    with pytest.raises(ManifestError, match="manifest.chains have parts of different epochs"):
+        from_json(to_json(wrong))

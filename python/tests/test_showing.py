@@ -48,7 +48,7 @@ def test_what_is_chosen(tmp_path: Path) -> None:
     assert showing.count() == showing.select() == len(chosen) == 8
     numbers = {each: world.state.issuer_id(key_of(each)) for each in range(3)}
     assert showing.sizes() == {numbers[0]: 4, numbers[2]: 4}
-    assert showing.fresh() == 8
+    assert showing.fresh(None) == {"whole": 8}
     assert shown_records(showing, tmp_path / "job") == b"".join(each.record for each in chosen)
     assert shown_records(showing, tmp_path / "part", showing.at(1), showing.at(3)) == b"".join(
         each.record for each in chosen[1:4]

@@ -127,7 +127,7 @@ def test_manifest(made: Made) -> None:
         ("snapshot", 2, world.parts[0].length),
         ("delta", 3, world.parts[1].length),
     ]
-    assert (manifest.store_length, manifest.store_sha256) == (release.store_length, release.store_sha256)
+    assert (manifest.store_length, manifest.store_sha256) == (release.store_length, release.chains[0].store_sha256)
     assert {(held.log, held.name, held.low, held.high) for held in manifest.coverage} == {
         (held.log, held.name, held.low, held.high) for held in row.coverage
     }

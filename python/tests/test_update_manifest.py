@@ -127,7 +127,7 @@ def test_a_cut_manifest(client: Follower, web: Web) -> None:
 
 
 MEMBERS: list[tuple[dict[str, Any], str]] = [
-    ({"format": 2}, "format is 2.*update this program"),
+    ({"format": 3}, "format is 3.*update this program"),
     ({"parts": []}, "1 to 64 parts"),
     ({"epoch": 5}, "epochs that don't rise"),
     ({"next_key": "none"}, "next_key: "),

@@ -8,9 +8,11 @@ from dataclasses import asdict, dataclass
 from pathlib import Path
 from typing import Any
 
+from ..places import Places, told
 from .alarms import Alarm
+from .config import Config
 from .rules import Range
-from .state import State
+from .state import State, StateError
 
 
 @dataclass(frozen=True)
@@ -23,6 +25,17 @@ class PartRow:
     length: int
     sha256: bytes
     file: Path
+
+
+@dataclass(frozen=True)
+class PlaceRow:
+    """The chain of a place that is published: its parts in order, and the store that these make."""
+
+    name: str
+    parts: tuple[PartRow, ...]
+    store: Path
+    store_length: int
+    store_sha256: bytes
 
 
 @dataclass(frozen=True)
@@ -64,9 +77,9 @@ class EpochRow:
     kind: str
     """snapshot or delta: of the part that was published, of the rebase's where one followed."""
     length: int
-    """Its bytes."""
+    """Its bytes; of those of all places, where the history is cut."""
     parts: int
-    """How many parts the chain has at its end."""
+    """How many parts the chain has at its end, or that of each place."""
     shown: int
     """How many entries its job showed; all were accepted."""
     waiting: int
@@ -94,17 +107,39 @@ class EpochRow:
 
 @dataclass(frozen=True)
 class Release:
-    """What clients are to have: the newest epoch, and the parts of its chain in order."""
+    """What clients are to have: the newest epoch, and the chains of all places, or the one."""
 
     generation: int
     epoch: int
     moment: int
-    parts: tuple[PartRow, ...]
-    store: Path
-    """The store that these parts make."""
-    store_length: int
-    store_sha256: bytes
+    chains: tuple[PlaceRow, ...]
     row: EpochRow
+    places: Places | None = None
+
+    @property
+    def parts(self) -> tuple[PartRow, ...]:
+        """The parts of all chains."""
+        return tuple(part for chain in self.chains for part in chain.parts)
+
+    @property
+    def store_length(self) -> int:
+        """How many bytes the stores have together."""
+        return sum(chain.store_length for chain in self.chains)
+
+
+@dataclass(frozen=True)
+class Held:
+    """What the publisher keeps of a place's chain."""
+
+    ledger: Path
+    store: Path
+    jobs: tuple[Path, ...] | None
+    """The jobs of all of its parts in order; None where a rebase began it."""
+
+    @property
+    def files(self) -> list[Path]:
+        """What goes once the chain goes on."""
+        return [self.ledger, self.store]
 
 
 @dataclass(frozen=True)
@@ -116,10 +151,8 @@ class Newest:
     """How many it has."""
     epoch: int
     """Of the newest part."""
-    ledger: Path
-    store: Path
-    jobs: tuple[Path, ...] | None
-    """The jobs of all of its parts in order; None where a rebase began it."""
+    places: dict[str, Held]
+    """By the name of the place, in their order; one of the whole where the history isn't cut."""
     ranges: dict[int, Range]
     """What the newest part covers of each log, by the log's number in the state."""
     held: int
@@ -146,11 +179,23 @@ class Former:
     parts: tuple[PartRow, ...]
 
 
-def _parts(state: State, generation: int) -> tuple[PartRow, ...]:
-    """The parts of a chain, in order."""
-    query = "SELECT kind, epoch, length, sha256, file FROM part WHERE generation = ? ORDER BY place"
-    rows = state.db.execute(query, (generation,))
-    return tuple(PartRow(kind, epoch, length, sha256, state.path(file)) for kind, epoch, length, sha256, file in rows)
+def _parts(state: State, generation: int) -> dict[str, list[PartRow]]:
+    """The parts of a chain, in order, by places."""
+    query = "SELECT name, kind, epoch, length, sha256, file FROM any_part WHERE generation = ? ORDER BY name, place"
+    found: dict[str, list[PartRow]] = {}
+    for name, kind, epoch, length, sha256, file in state.db.execute(query, (generation,)):
+        found.setdefault(name, []).append(PartRow(kind, epoch, length, sha256, state.path(file)))
+    return found
+
+
+def test_places(config: Config, state: State) -> None:
+    """Refuses another plan of places than the one with which the state's chain was begun."""
+    begun = state.db.execute("SELECT 1 FROM chain LIMIT 1").fetchone() is not None
+    held = state.places()
+    if begun and held != config.places:
+        was = f"the chain in {config.state} was begun with {told(held)}, and CONFIG has {told(config.places)}"
+        remedy = "write the same [places], or begin a new chain, with another `name`, `state` and `site`"
+        raise StateError(f"{config.path}: {was}: {remedy}")
 
 
 def newest_epoch(state: State) -> EpochRow | None:
@@ -161,21 +206,34 @@ def newest_epoch(state: State) -> EpochRow | None:
 
 def newest(state: State) -> Newest | None:
     """The newest chain; None where no part was published yet."""
-    query = "SELECT generation, ledger, store, held FROM chain ORDER BY generation DESC LIMIT 1"
-    row = state.db.execute(query).fetchone()
+    row = state.db.execute("SELECT generation, held FROM chain ORDER BY generation DESC LIMIT 1").fetchone()
     if row is None:
         return None
-    generation, ledger, store, held = row
-    parts = state.db.execute(
-        "SELECT epoch, job FROM part WHERE generation = ? ORDER BY place", (generation,)
-    ).fetchall()
-    jobs = None if parts[0][1] is None else tuple(state.path(job) for _, job in parts)
+    generation, held = row
+    query = "SELECT epoch FROM part WHERE generation = ? ORDER BY place"
+    epochs = [epoch for (epoch,) in state.db.execute(query, (generation,))]
     ranges = state.db.execute(
-        "SELECT log, low, high FROM part_range WHERE generation = ? AND place = ?", (generation, len(parts) - 1)
+        "SELECT log, low, high FROM part_range WHERE generation = ? AND place = ?", (generation, len(epochs) - 1)
     )
     covered = {log: (low, high) for log, low, high in ranges}
-    paths = state.path(ledger), state.path(store)
-    return Newest(generation, len(parts), parts[-1][0], *paths, jobs, covered, held)
+    return Newest(generation, len(epochs), epochs[-1], _held(state, generation), covered, held)
+
+
+def _held(state: State, generation: int) -> dict[str, Held]:
+    """What is kept of a chain, by places."""
+    jobs: dict[str, list[str | None]] = {}
+    query = "SELECT name, job FROM any_part WHERE generation = ? ORDER BY name, place"
+    for name, job in state.db.execute(query, (generation,)):
+        jobs.setdefault(name, []).append(job)
+    query = "SELECT name, ledger, store FROM any_chain WHERE generation = ? ORDER BY name"
+    return {
+        name: Held(
+            state.path(ledger),
+            state.path(store),
+            None if jobs[name][0] is None else tuple(state.path(job) for job in jobs[name] if job is not None),
+        )
+        for name, ledger, store in state.db.execute(query, (generation,)).fetchall()
+    }
 
 
 def release(state: State) -> Release | None:
@@ -183,10 +241,13 @@ def release(state: State) -> Release | None:
     row = newest_epoch(state)
     if row is None:
         return None
-    query = "SELECT store, store_length, store_sha256 FROM chain WHERE generation = ?"
-    store, length, sha256 = state.db.execute(query, (row.generation,)).fetchone()
     parts = _parts(state, row.generation)
-    return Release(row.generation, row.epoch, row.moment, parts, state.path(store), length, sha256, row)
+    query = "SELECT name, store, store_length, store_sha256 FROM any_chain WHERE generation = ? ORDER BY name"
+    chains = tuple(
+        PlaceRow(name, tuple(parts[name]), state.path(store), length, sha256)
+        for name, store, length, sha256 in state.db.execute(query, (row.generation,))
+    )
+    return Release(row.generation, row.epoch, row.moment, chains, row, state.places())
 
 
 def history(state: State, last: int) -> list[EpochRow]:
@@ -215,7 +276,11 @@ def waiting(state: State) -> list[Waiting]:
 def former(state: State) -> list[Former]:
     """The chains that are no longer published, the oldest first."""
     query = "SELECT generation, ended FROM chain WHERE ended IS NOT NULL ORDER BY generation"
-    return [Former(generation, ended, _parts(state, generation)) for generation, ended in state.db.execute(query)]
+    rows = state.db.execute(query).fetchall()
+    return [
+        Former(generation, ended, tuple(part for parts in _parts(state, generation).values() for part in parts))
+        for generation, ended in rows
+    ]
 
 
 def to_facts(row: EpochRow) -> str:

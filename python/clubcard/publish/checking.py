@@ -1,12 +1,15 @@
 """Tests of the store that clients will have, before anything names it: does it say what is true?"""
 
+import contextlib
 import mmap
 import sqlite3
-from collections.abc import Sequence
+from collections.abc import Mapping, Sequence
 from pathlib import Path
 
 from ..answers import Verdict
 from ..engine import Engine, PassedLimit
+from ..fleet import Fleet
+from ..places import WHOLE, Places
 from ..store import Store
 from .making import NoEpoch
 
@@ -46,19 +49,27 @@ def audited(engine: Engine, store: Path, jobs: Sequence[Path] | None) -> bool:
     return True
 
 
-def ask(db: sqlite3.Connection, store: Path, asked: str, epoch: int) -> int:
-    """Tests by the library that a store says what the state says, of what a query asks: of each its log, time, issuer
-    and serial, and whether it is revoked. How many these are; one that isn't as the state says is a NoEpoch."""
+def ask(db: sqlite3.Connection, places: Places | None, stores: Mapping[str, Path], asked: str, epoch: int) -> int:
+    """Tests by the library that stores, by their places, say what the state says, of what a query asks: of each its
+    log, time, issuer and serial, and whether it is revoked. How many these are; one that isn't as the state says is a
+    NoEpoch."""
     count, rows = 0, db.execute(asked, {"epoch": epoch})
-    with open(store, "rb") as file, mmap.mmap(file.fileno(), 0, access=mmap.ACCESS_READ) as octets:
-        held = Store(octets)
+    with contextlib.ExitStack() as stack:
+        octets = {name: _mapped(stack, store) for name, store in stores.items()}
+        held: Store | Fleet = Store(octets[WHOLE]) if places is None else Fleet(places, octets)
         while some := rows.fetchmany(AT_ONCE):
             _compare(held, some)
             count += len(some)
     return count
 
 
-def _compare(store: Store, rows: Sequence[tuple[bytes, int, bytes, bytes, int]]) -> None:
+def _mapped(stack: contextlib.ExitStack, store: Path) -> mmap.mmap:
+    """The bytes of a store."""
+    file = stack.enter_context(open(store, "rb"))
+    return stack.enter_context(mmap.mmap(file.fileno(), 0, access=mmap.ACCESS_READ))
+
+
+def _compare(store: Store | Fleet, rows: Sequence[tuple[bytes, int, bytes, bytes, int]]) -> None:
     """Asks about rows, and tests the answers."""
     answers = store.query_seen((issuer, serial, log, time) for log, time, issuer, serial, _ in rows)
     for answer, (log, time, issuer, serial, is_revoked) in zip(answers, rows):

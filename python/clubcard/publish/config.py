@@ -14,6 +14,8 @@ from typing import Literal, cast
 from .. import pki
 from .. import minisign
 from ..jobs import MOST_CRLS, MOST_RANGES
+from ..places import Places
+from ..places_table import read_places
 from ..tables import ConfigError, Table, read_config
 from ..times import MINUTE
 from .heads import MOST, LogKey
@@ -24,7 +26,8 @@ LogKind = Literal["rfc6962", "static"]
 MOST_PARTS = 64
 """How many parts a chain has at most."""
 _KEYS = (
-    "name state site key next_key program workers valid_for rebase_after patience max_away grace keep issuer log"
+    "name state site key next_key program workers valid_for rebase_after patience max_away grace keep places"
+    " issuer log"
 ).split()
 _ISSUER_KEYS = ("name", "certificate", "crls", "names")
 _LOG_KEYS = ("name", "kind", "url", "key", "mmd", "first", "origin")
@@ -103,6 +106,8 @@ class Config:
     """How long parts of chains stay in the site that are no longer published."""
     issuers: tuple[Issuer, ...]
     logs: tuple[Log, ...]
+    places: Places | None = None
+    """Into which places the history is cut; None where it isn't."""
 
 
 def load(path: Path) -> Config:
@@ -132,8 +137,9 @@ def load(path: Path) -> Config:
         keep=table.duration("keep", "30d"),
         issuers=issuers,
         logs=logs,
+        places=read_places(table),
     )
-    _test_places(table, config)
+    _test_folders(table, config)
     return config
 
 
@@ -168,8 +174,8 @@ def _program(table: Table, base: Path) -> str:
     return str(base / program) if "/" in program else program
 
 
-def _test_places(table: Table, config: Config) -> None:
-    """Refuses places where a web server would show what is secret, and a key that can't sign unattended."""
+def _test_folders(table: Table, config: Config) -> None:
+    """Refuses folders where a web server would show what is secret, and a key that can't sign unattended."""
     site, state = (Path(os.path.realpath(place)) for place in (config.site, config.state))
     for key, place in (("state", state), ("key", Path(os.path.realpath(config.key)))):
         if place.is_relative_to(site):

@@ -1,12 +1,13 @@
 """One epoch: what the spool and the CRLs hold becomes a job, the job a part, and the part the newest of the chain."""
 
+from collections.abc import Mapping
 from concurrent.futures import ThreadPoolExecutor
 from dataclasses import dataclass
 from pathlib import Path
 
 from ..engine import Engine
 from ..progress import Progress
-from . import chain, checking, fitting, rebasing, recording
+from . import chain, checking, fitting, rebasing, recording, sums
 from .alarms import Alarms
 from .chain import EpochRow, Newest
 from .config import Config
@@ -127,48 +128,65 @@ def _made(making: Making, plan: fitting.Plan) -> tuple[EpochRow, bool]:
     generation, epoch = (newest.generation, newest.epoch + 1) if newest else (1, 1)
     showing = Showing(state, generation, cut)
     made = Publishing(making, showing, newest, epoch).publish(plan)
-    store = _store(making, newest, made)
-    files = _files(making, made, store)
+    stores = _stores(making, newest, made)
+    files = _files(making, made, stores)
     _tell_late(making)
     done = (newest.parts if newest else 0) + 1 < making.config.rebase_after
     with ThreadPoolExecutor(2) as threads, making.progress.task("auditing the new store"), state.transaction():
         # While the transaction is written the program audits, and the job goes to the disk.
-        audit = threads.submit(_audited, making, newest, made, store)
-        on_disk = threads.submit(state.keep, made.job)
+        audit = threads.submit(_audited, making, newest, made, stores)
+        on_disk = threads.submit(_keep_jobs, making, made)
         recording.name_part(making, newest, made, files)
         recording.accept(making, made)
         recording.revoke(making, made.plan, epoch)
         on_disk.result()
+        if making.config.places is not None:
+            sums.test_universe(made.line, recording.enrolled_universe(making, made.plan))
         if not audit.result():
-            checking.ask(making.db, store, checking.of_epoch(), epoch)
+            checking.ask(making.db, making.config.places, stores, checking.of_epoch(), epoch)
         recording.forget(making, generation, cut)
         row = recording.epoch_row(making, newest, made, files)
         recording.write_row(making, row, done)
     return row, done
 
 
-def _store(making: Making, newest: Newest | None, made: Made) -> Path:
-    """The store of a client who installed all parts."""
-    store = making.state.new_file("chain", ".store")
-    if newest is None:
-        making.engine.start(made.part, store)
-    else:
-        making.engine.install(newest.store, made.part, store)
-    return store
+def _stores(making: Making, newest: Newest | None, made: Made) -> dict[str, Path]:
+    """The stores of a client who installed all parts, by places."""
+    stores = {}
+    for name, brought in made.places.items():
+        stores[name] = making.state.new_file("chain", ".store", name)
+        if newest is None:
+            making.engine.start(brought.part, stores[name])
+        else:
+            making.engine.install(newest.places[name].store, brought.part, stores[name])
+    return stores
 
 
-def _files(making: Making, made: Made, store: Path) -> Files:
-    """The epoch's files, once all but the job are on the disk."""
-    state = making.state
-    state.keep(made.ledger)
-    names = state.named(made.ledger), state.named(made.job)
-    return Files(recording.kept(making, made.part), names[0], recording.kept(making, store), names[1])
+def _files(making: Making, made: Made, stores: Mapping[str, Path]) -> dict[str, Files]:
+    """The epoch's files by places, once all but the jobs are on the disk."""
+    state, files = making.state, {}
+    for name, brought in made.places.items():
+        state.keep(brought.ledger)
+        names = state.named(brought.ledger), state.named(brought.job)
+        part, store = recording.kept(making, brought.part), recording.kept(making, stores[name])
+        files[name] = Files(part, names[0], store, names[1])
+    return files
 
 
-def _audited(making: Making, newest: Newest | None, made: Made, store: Path) -> bool:
-    """Whether the program audited the store by all jobs of its chain."""
-    jobs = newest.jobs if newest else ()
-    return checking.audited(making.engine, store, None if jobs is None else (*jobs, made.job))
+def _keep_jobs(making: Making, made: Made) -> None:
+    """Waits until the jobs are on the disk."""
+    for brought in made.places.values():
+        making.state.keep(brought.job)
+
+
+def _audited(making: Making, newest: Newest | None, made: Made, stores: Mapping[str, Path]) -> bool:
+    """Whether the program audited the store of each place by all jobs of its chain."""
+    audits = []
+    for name, brought in made.places.items():
+        jobs = newest.places[name].jobs if newest else ()
+        all_jobs = None if jobs is None else (*jobs, brought.job)
+        audits.append(checking.audited(making.engine, stores[name], all_jobs))
+    return all(audits)
 
 
 def _tell_late(making: Making) -> None:

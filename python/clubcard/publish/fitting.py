@@ -5,6 +5,7 @@ from dataclasses import dataclass, field, replace
 from functools import cached_property
 
 from ..crls import Crl
+from ..places import WHOLE, names_of
 from ..times import nearest_iso
 from . import rules
 from .chain import Newest
@@ -41,13 +42,14 @@ def begun(making: Making, enrolment: Enrolment) -> Plan:
 
 
 def lacking(making: Making, showing: Showing, newest: Newest, plan: Plan) -> int:
-    """How many identities more the ledger would need for all that could be covered."""
+    """How many identities more the ledgers would need for all that could be covered."""
     fit = _Fit(making, showing)
-    if making.waiting() <= fit.room:
+    if making.waiting() <= fit.least_room:
         return 0
     showing.enrol(plan.crls)
     showing.cover(rules.ranges(_followed(making, newest.ranges), newest.ranges))
-    return max(0, showing.fresh() - fit.room)
+    fresh = showing.fresh(making.config.places)
+    return sum(max(0, count - fit.room[name]) for name, count in fresh.items())
 
 
 def fitted(making: Making, showing: Showing, newest: Newest | None, plan: Plan) -> Plan:
@@ -86,34 +88,54 @@ class _Fit:
     making: Making
     showing: Showing
     why: str = ""
+    full: frozenset[str] = frozenset()
+    """The places whose ledgers have no room."""
 
     def fits(self, ranges: Mapping[int, rules.Range]) -> bool:
-        """Whether what these ranges show fits into a job and into the ledger."""
+        """Whether what these ranges show fits into a job and into the ledger of each place."""
         self.showing.cover(ranges)
         if self.fits_all:
             return True
         limits, shown = self.making.limits, self.showing.count()
         if shown > limits.entries:
-            self.why = f"a job takes {limits.entries} entries"
+            self.why, self.full = f"a job takes {limits.entries} entries", frozenset()
             return False
-        if shown > self.room and self.showing.fresh() > self.room:
-            self.why = (
-                f"the ledger takes {limits.identities} identities, and {self.room} more fit:"
-                " publish some of the issuers by a CONFIG of their own"
-            )
-            return False
-        return True
+        lacking = self.lacking() if shown > self.least_room else {}
+        if lacking:
+            self.full = frozenset(lacking)
+            self.why = self._why_full(*min(lacking.items()))
+        return not lacking
+
+    def _why_full(self, place: str, room: int) -> str:
+        """Why what is shown doesn't fit into the ledger of a place."""
+        limit = self.making.limits.identities
+        if place == WHOLE:
+            remedy = "publish some of the issuers by a CONFIG of their own, or begin a new chain with [places]"
+            return f"the ledger takes {limit} identities, and {room} more fit: {remedy}"
+        return f"place {place} takes {limit} identities, and {room} more fit: begin a new chain with more places"
 
     @cached_property
     def fits_all(self) -> bool:
         """Whether all that waits would fit, whatever of it is shown."""
-        return self.making.waiting() <= min(self.making.limits.entries, self.room)
+        return self.making.waiting() <= min(self.making.limits.entries, self.least_room)
 
     @cached_property
-    def room(self) -> int:
-        """How many identities more the ledger takes."""
+    def room(self) -> dict[str, int]:
+        """How many identities more each ledger takes, by places."""
+        held, limit = self.showing.held(self.making.config.places), self.making.limits.identities
+        return {name: max(0, limit - held.get(name, 0)) for name in names_of(self.making.config.places)}
+
+    @cached_property
+    def least_room(self) -> int:
+        """How many identities more fit, wherever their places are."""
         (held,) = self.making.db.execute("SELECT count(*) FROM identity").fetchone()
-        return max(0, self.making.limits.identities - int(held))
+        rough = max(0, self.making.limits.identities - int(held))
+        return rough if self.making.waiting() <= rough else min(self.room.values())
+
+    def lacking(self) -> dict[str, int]:
+        """The places whose ledgers lack room for what is shown, with the room that they have."""
+        fresh = self.showing.fresh(self.making.config.places)
+        return {name: self.room[name] for name, count in fresh.items() if count > self.room[name]}
 
 
 def _followed(making: Making, standing: Mapping[int, rules.Range]) -> dict[int, LogRow]:
@@ -133,13 +155,22 @@ def _with_standing(
 ) -> Plan:
     """The plan without issuers of whom more waits than fits, in what was covered before."""
     while not fit.fits(standing):
-        sizes = showing.sizes()
+        sizes = _in_full_places(making, fit, showing.sizes())
         issuer = rules.heaviest(sizes)
         why = f"{sizes[issuer]} of its entries wait in what is covered, and {fit.why}"
         making.alarms.add("room", f"{making.issuer_name(issuer)} is left out: {why}")
         plan = plan.leave(issuer, why)
         showing.enrol(plan.crls)
     return plan
+
+
+def _in_full_places(making: Making, fit: _Fit, sizes: dict[int, int]) -> dict[int, int]:
+    """The sizes of those issuers that are at places without room, where these are why not all fits."""
+    places = making.config.places
+    if places is None or not fit.full:
+        return sizes
+    keys = dict(making.db.execute("SELECT id, key FROM issuer"))
+    return {n: size for n, size in sizes.items() if any(places.has_issuer(name, keys[n]) for name in fit.full)}
 
 
 def _with_crls(making: Making, plan: Plan) -> Plan:

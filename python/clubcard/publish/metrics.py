@@ -47,7 +47,7 @@ def gauges(overview: Overview) -> tuple[Gauge, ...]:
         _one("clubcard_epoch", "Number of the newest epoch.", str(release.epoch)),
         _one("clubcard_moment_seconds", "Moment of the newest epoch, since 1970.", _seconds(release.moment)),
         _one("clubcard_valid_until_seconds", "Until when its manifest is valid.", _seconds(row.valid_until)),
-        _one("clubcard_parts", "Parts of the chain.", str(len(release.parts))),
+        _one("clubcard_parts", "Parts of the chain.", str(row.parts)),
         _many("clubcard_part_bytes", "Bytes of the chain's parts, by kind.", _part_bytes(overview)),
         _one("clubcard_universe", "Certificates that the chain accepted.", str(row.universe)),
         _one("clubcard_revoked", "Those of them that are revoked.", str(row.revoked)),

@@ -1,16 +1,20 @@
 """A plan becomes a part: the job is written, the program publishes it, and its line is compared with what was shown."""
 
-from collections.abc import Callable
+from collections.abc import Callable, Mapping
 from dataclasses import dataclass
 from pathlib import Path
 
+from ..cutting import Lost, divide
 from ..engine import NoSeeds, PassedLimit, Published, RefusedCrl
 from ..jobs import JobWriter
-from . import rules
+from ..places import WHOLE, names_of
+from . import rules, sums
 from .chain import Newest
 from .fitting import Plan, fitted
+from .kept import KeptCrl
 from .making import Making, NoEpoch
 from .showing import Showing
+from .state import Folder
 
 MOST_RUNS = 200
 """How often the program is run at most, in one epoch, to find what it counts otherwise."""
@@ -21,16 +25,37 @@ _OTHER = "see that it is the program of this version"
 
 
 @dataclass(frozen=True)
-class Made:
-    """A new part, whose line is as it must be. Its files aren't synced yet."""
+class Brought:
+    """What is made for the chain of a place. Its files aren't synced yet."""
 
-    epoch: int
-    plan: Plan
-    shown: int
     job: Path
     part: Path
     ledger: Path
     line: Published
+
+    def unlink(self) -> None:
+        """Removes the files, where they are there."""
+        for path in (self.job, self.part, self.ledger):
+            path.unlink(missing_ok=True)
+
+
+@dataclass(frozen=True)
+class Made:
+    """New parts, whose line, that of all places together, is as it must be."""
+
+    epoch: int
+    plan: Plan
+    shown: int
+    places: dict[str, Brought]
+    line: Published
+
+
+class _Refusal(Exception):
+    """The program refuses the job of a place."""
+
+    def __init__(self, place: str, fault: RefusedCrl | NoSeeds | PassedLimit) -> None:
+        super().__init__(place, fault)
+        self.place, self.fault = place, fault
 
 
 @dataclass
@@ -58,21 +83,29 @@ class Publishing:
     def _try(self, plan: Plan) -> Made | Plan:
         """The part of a plan, or another plan where this one can't be published."""
         making, shown = self.making, self.showing.select()
-        job, part, ledger = (making.state.new_file("chain", suffix) for suffix in (".job", ".part", ".ledger"))
+        jobs = self._new_files("chain", ".job")
+        job = next(iter(jobs.values())) if making.config.places is None else making.state.new_file("work", ".job")
         with making.progress.task("publishing", shown) as task:
             self.write(job, plan, self.showing.copy)
             task.advance(shown)
             try:
-                line = self.run(job, part, ledger, making.config.workers)
-            except (RefusedCrl, NoSeeds, PassedLimit) as fault:
-                job.unlink()
-                return self._without(plan, fault)
+                made = self.run(job, jobs, "chain")
+            except _Refusal as refusal:
+                for path in jobs.values():
+                    path.unlink(missing_ok=True)
+                return self._without(plan, refusal)
+        line = sums.summed(making.config.places, {name: each.line for name, each in made.items()})
         why = rules.difference(line, len(plan.crls), shown)
         if why is None:
-            return Made(self.epoch, plan, shown, job, part, ledger, line)
-        for path in (job, part, ledger):
-            path.unlink()
+            return Made(self.epoch, plan, shown, made, line)
+        for each in made.values():
+            each.unlink()
         return self._aside(plan, line, shown, why)
+
+    def _new_files(self, folder: Folder, suffix: str) -> dict[str, Path]:
+        """New names of files, one for each place."""
+        names = names_of(self.making.config.places)
+        return {name: self.making.state.new_file(folder, suffix, name) for name in names}
 
     def write(self, path: Path, plan: Plan, entries: Callable[[JobWriter], None]) -> None:
         """Writes a job of a plan, with these entries."""
@@ -86,23 +119,61 @@ class Publishing:
                 job.crl(issuers[issuer], crl.file.read_bytes())
             entries(job)
 
-    def run(self, job: Path, part: Path, ledger: Path, workers: int) -> Published:
-        """Runs the program behind the newest chain."""
-        engine = self.making.engine
+    def run(self, job: Path, jobs: Mapping[str, Path], folder: Folder) -> dict[str, Brought]:
+        """Cuts a job into those of all places, and runs the program behind the newest chain of each."""
+        self._divide(job, jobs)
+        made: dict[str, Brought] = {}
+        parts, ledgers = self._new_files(folder, ".part"), self._new_files(folder, ".ledger")
+        for name, own in jobs.items():
+            try:
+                line = self._run_place(name, own, parts[name], ledgers[name])
+            except (RefusedCrl, NoSeeds, PassedLimit) as fault:
+                for each in made.values():
+                    each.unlink()
+                raise _Refusal(name, fault) from fault
+            made[name] = Brought(own, parts[name], ledgers[name], line)
+        return made
+
+    def _run_place(self, name: str, job: Path, part: Path, ledger: Path) -> Published:
+        """Runs the program behind the newest chain of a place."""
+        engine, workers = self.making.engine, self.making.config.workers
         if self.newest is None:
             return engine.snapshot(job, part, ledger, workers)
-        return engine.delta(job, self.newest.ledger, part, ledger, workers)
+        return engine.delta(job, self.newest.places[name].ledger, part, ledger, workers)
 
-    def _without(self, plan: Plan, fault: RefusedCrl | NoSeeds | PassedLimit) -> Plan:
+    def _divide(self, job: Path, jobs: Mapping[str, Path]) -> None:
+        """Cuts a job into those of places, and removes it; without places it is the one."""
+        places, state = self.making.config.places, self.making.state
+        if places is None:
+            return
+        large = {name: state.new_file("work", ".job") for name in places.again}
+        try:
+            divide(self.making.engine, places, job, {**jobs, **large})
+        except Lost as fault:
+            raise NoEpoch(str(fault), "the site stays as it is") from fault
+        for path in (job, *large.values()):
+            path.unlink()
+
+    def _crls_at(self, plan: Plan, place: str) -> list[tuple[int, KeptCrl]]:
+        """The CRLs of a place's job, in their order, with their issuers."""
+        places = self.making.config.places
+        keys = dict(self.making.db.execute("SELECT id, key FROM issuer"))
+        here = [issuer for issuer in plan.crls if places is None or places.has_issuer(place, keys[issuer])]
+        return [(issuer, crl) for issuer in here for crl in plan.crls[issuer]]
+
+    def _without(self, plan: Plan, refusal: _Refusal) -> Plan:
         """The plan without the issuer of whom the program says why it publishes nothing."""
-        making = self.making
+        making, fault, crls = self.making, refusal.fault, self._crls_at(plan, refusal.place)
         if isinstance(fault, RefusedCrl):
-            issuer, crl = [(issuer, crl) for issuer, crls in plan.crls.items() for crl in crls][fault.record]
+            issuer, crl = crls[fault.record]
             why = f"the program refuses its CRL {crl.url}: {fault.fault}"
         elif isinstance(fault, NoSeeds):
             issuer, why = making.state.issuer_id(fault.issuer), f"the program finds no filter for it: {fault.line}"
-        elif fault.what == "serials" and plan.crls:
-            issuer = rules.heaviest({n: sum(crl.file.stat().st_size for crl in crls) for n, crls in plan.crls.items()})
+        elif fault.what == "serials" and crls:
+            sizes = {number: 0 for number, _ in crls}
+            for number, crl in crls:
+                sizes[number] += crl.file.stat().st_size
+            issuer = rules.heaviest(sizes)
             why = f"a job takes {fault.limit} serials, and its CRLs are the longest"
         else:
             raise fault
@@ -112,6 +183,8 @@ class Publishing:
     def _aside(self, plan: Plan, line: Published, shown: int, why: str) -> Plan:
         """The plan behind a line that differs: without issuers that the program doesn't enrol, and with the entries set
         aside that it counts otherwise."""
+        if self.making.config.places is not None:
+            sums.test_whole(line, _Tries(self, plan, False).whole())
         tries = _Tries(self, plan, line.late > 0)
         wrong = line.unread + line.uncovered + line.unenrolled + line.late
         if line.issuers != len(plan.crls):
@@ -171,6 +244,10 @@ class _Tries:
     plan: Plan
     late: bool
 
+    def whole(self) -> Published:
+        """What the program says of the whole job."""
+        return self._line(self.plan, self.publishing.showing.copy)
+
     def entries(self, low: int, high: int) -> int:
         """How many entries between two places, of what is shown, the program doesn't accept."""
         showing = self.publishing.showing
@@ -185,17 +262,24 @@ class _Tries:
 
     def _line(self, plan: Plan, entries: Callable[[JobWriter], None]) -> Published:
         """What the program says of a job that isn't published."""
-        publishing, state = self.publishing, self.publishing.making.state
-        job, part, ledger = (state.new_file("work", suffix) for suffix in (".job", ".part", ".ledger"))
+        publishing, making = self.publishing, self.publishing.making
+        places = making.config.places if self.late else None
+        job, part, ledger = (making.state.new_file("work", suffix) for suffix in (".job", ".part", ".ledger"))
+        jobs = {WHOLE: job} if places is None else publishing._new_files("work", ".job")
+        made: dict[str, Brought] = {}
         try:
             publishing.write(job, plan, entries)
-            workers, engine = publishing.making.config.workers, publishing.making.engine
-            if self.late:
-                return publishing.run(job, part, ledger, workers)
-            return engine.snapshot(job, part, ledger, workers)
+            if not self.late:
+                return making.engine.snapshot(job, part, ledger, making.config.workers)
+            made = publishing.run(job, jobs, "work")
+            return sums.summed(places, {name: each.line for name, each in made.items()})
+        except _Refusal as refusal:
+            raise refusal.fault from refusal
         finally:
-            for path in (job, part, ledger):
+            for path in (job, part, ledger, *jobs.values()):
                 path.unlink(missing_ok=True)
+            for each in made.values():
+                each.unlink()
 
 
 def halves(

@@ -7,7 +7,7 @@ from pathlib import Path
 from ..engine import Rebased
 from . import chain, checking, recording, rules
 from .alarms import Alarm
-from .chain import EpochRow, IssuerRow, Newest
+from .chain import EpochRow, Held, IssuerRow, Newest
 from .making import Making, NoEpoch
 from .recording import Files, Sizes
 from .spool import log_rows
@@ -89,7 +89,8 @@ def _rebased(making: Making, newest: Newest, without: Mapping[int, int]) -> Epoc
             _forget(making, newest.generation + 1, list(without))
             sizes = recording.sizes(making)
             _compare(making, line, sizes)
-            checking.ask(making.db, making.state.path(files.store.name), checking.of_rebase(), newest.epoch)
+            stores = {name: making.state.path(each.store.name) for name, each in files.items()}
+            checking.ask(making.db, making.config.places, stores, checking.of_rebase(), newest.epoch)
             for issuer, count in without.items():
                 text = f"the chain began anew without {making.issuer_name(issuer)} of which {count} entries wait"
                 making.alarms.add("without", f"{text}: its certificates read not-enrolled until it is enrolled again")
@@ -98,30 +99,39 @@ def _rebased(making: Making, newest: Newest, without: Mapping[int, int]) -> Epoc
     return row
 
 
-def _run(making: Making, newest: Newest, without: list[int]) -> tuple[Rebased, Files]:
-    """The program's rebase, in as many calls as the issuers that are left out want, and the store that begins with its
-    part. A ledger that was begun anew can be so again."""
+def _run(making: Making, newest: Newest, without: list[int]) -> tuple[Rebased, dict[str, Files]]:
+    """The program's rebase of each place, and the stores that begin with its parts; the line is that of all places."""
     keys = dict(making.db.execute("SELECT id, key FROM issuer"))
+    named = [keys[issuer] for issuer in without]
+    made = {name: _run_place(making, name, held, named) for name, held in newest.places.items()}
+    lines = [line for line, _ in made.values()]
+    universe, revoked = sum(line.universe for line in lines), sum(line.revoked for line in lines)
+    return replace(lines[0], universe=universe, revoked=revoked), {name: files for name, (_, files) in made.items()}
+
+
+def _run_place(making: Making, name: str, held: Held, named: list[bytes]) -> tuple[Rebased, Files]:
+    """The rebase of a place, in as many calls as the issuers that are left out want. A ledger that was begun anew can
+    be so again."""
     state, config, cut = making.state, making.config, cut_of(making)
-    most, ledger = making.limits.without, newest.ledger
-    for at in range(0, max(len(without), 1), most):
-        old, part, ledger = ledger, state.new_file("chain", ".part"), state.new_file("chain", ".ledger")
-        named = [keys[issuer] for issuer in without[at : at + most]]
-        line = making.engine.rebase(old, cut, part, ledger, config.workers, named)
-    store = state.new_file("chain", ".store")
+    most, ledger = making.limits.without, held.ledger
+    for at in range(0, max(len(named), 1), most):
+        old, part = ledger, state.new_file("chain", ".part", name)
+        ledger = state.new_file("chain", ".ledger", name)
+        line = making.engine.rebase(old, cut, part, ledger, config.workers, named[at : at + most])
+    store = state.new_file("chain", ".store", name)
     making.engine.start(part, store)
     state.keep(ledger)
     return line, Files(recording.kept(making, part), state.named(ledger), recording.kept(making, store), None)
 
 
-def _begin(making: Making, newest: Newest, files: Files, without: list[int]) -> None:
+def _begin(making: Making, newest: Newest, files: Mapping[str, Files], without: list[int]) -> None:
     """Names what the new chain begins with, and lets the old one end."""
     db, old, new = making.db, newest.generation, newest.generation + 1
-    making.former += [newest.ledger, newest.store, *(newest.jobs or _jobs(making, old))]
-    db.execute("INSERT INTO chain VALUES (?, '', '', 0, x'', 0, NULL)", (new,))
+    making.former += [path for held in newest.places.values() for path in held.files]
+    making.former += _jobs(making, old)
+    recording.begin_chain(making, new)
     recording.point_to(making, new, files)
-    row = (new, newest.epoch, files.part.name, files.part.length, files.part.sha256)
-    db.execute("INSERT INTO part VALUES (?, 0, 'snapshot', ?, ?, ?, ?, NULL)", row)
+    recording.add_part(making, (new, 0), "snapshot", newest.epoch, files)
     ranges = ((new, log, low, high) for log, (low, high) in newest.ranges.items())
     db.executemany("INSERT INTO part_range VALUES (?, 0, ?, ?, ?)", ranges)
     query = "INSERT INTO part_issuer SELECT DISTINCT ?, 0, issuer FROM part_issuer WHERE generation = ?"
@@ -129,14 +139,16 @@ def _begin(making: Making, newest: Newest, files: Files, without: list[int]) -> 
     db.executemany("DELETE FROM part_issuer WHERE generation = ? AND issuer = ?", ((new, each) for each in without))
     db.execute("DELETE FROM part_range WHERE generation = ?", (old,))
     db.execute("DELETE FROM part_issuer WHERE generation = ?", (old,))
-    db.execute("UPDATE part SET job = NULL WHERE generation = ?", (old,))
+    for table in ("part", "place_part"):
+        db.execute(f"UPDATE {table} SET job = NULL WHERE generation = ?", (old,))
+    db.execute("UPDATE place_chain SET ledger = NULL, store = NULL WHERE generation = ?", (old,))
     ended = "UPDATE chain SET ended = ?, ledger = NULL, store = NULL WHERE generation = ?"
     db.execute(ended, (making.moment, old))
 
 
 def _jobs(making: Making, generation: int) -> list[Path]:
-    """The jobs of a chain that a rebase began."""
-    query = "SELECT job FROM part WHERE generation = ? AND job IS NOT NULL"
+    """The jobs of a chain."""
+    query = "SELECT job FROM any_part WHERE generation = ? AND job IS NOT NULL"
     return [making.state.path(name) for (name,) in making.db.execute(query, (generation,))]
 
 
@@ -168,7 +180,9 @@ def _compare(making: Making, line: Rebased, sizes: Sizes) -> None:
         making.alarms.add("count", f"the program's rebase keeps {text}: report it")
 
 
-def _rebased_row(making: Making, newest: Newest, files: Files, sizes: Sizes, raised: Sequence[Alarm]) -> EpochRow:
+def _rebased_row(
+    making: Making, newest: Newest, files: Mapping[str, Files], sizes: Sizes, raised: Sequence[Alarm]
+) -> EpochRow:
     """The newest epoch's row behind its rebase, with the alarms that this raised."""
     row = _row(making, raised)
     counted = {key: sizes.get(number, (0, 0)) for number, key in making.db.execute("SELECT id, key FROM issuer")}
@@ -176,7 +190,7 @@ def _rebased_row(making: Making, newest: Newest, files: Files, sizes: Sizes, rai
         row,
         generation=newest.generation + 1,
         kind="snapshot",
-        length=files.part.length,
+        length=sum(each.part.length for each in files.values()),
         parts=1,
         waiting=making.waiting(),
         universe=sum(universe for universe, _ in counted.values()),

@@ -1,14 +1,17 @@
 """What one transaction writes behind a new part: names of files, marks of entries, identities, and the epoch's row."""
 
 import hashlib
+from collections.abc import Mapping
 from dataclasses import dataclass
 from pathlib import Path
 
+from ..places import WHOLE
 from . import rules
 from .chain import Coverage, EpochRow, IssuerRow, Newest, to_facts
 from .fitting import Plan, listed_in
 from .making import Making
 from .publishing import Made
+from .state import PLACED
 
 
 @dataclass(frozen=True)
@@ -30,7 +33,7 @@ def kept(making: Making, path: Path) -> FileFacts:
 
 @dataclass(frozen=True)
 class Files:
-    """What a new part brings."""
+    """What the new part of a place brings."""
 
     part: FileFacts
     ledger: str
@@ -38,17 +41,16 @@ class Files:
     job: str | None
 
 
-def name_part(making: Making, newest: Newest | None, made: Made, files: Files) -> None:
-    """Makes a part the newest of its chain."""
+def name_part(making: Making, newest: Newest | None, made: Made, files: Mapping[str, Files]) -> None:
+    """Makes the parts of all places the newest of their chains."""
     db, generation = making.db, newest.generation if newest else 1
     if newest is None:
-        db.execute("INSERT INTO chain VALUES (?, '', '', 0, x'', 0, NULL)", (generation,))
+        begin_chain(making, generation)
     else:
-        making.former += [newest.ledger, newest.store]
+        making.former += [path for held in newest.places.values() for path in held.files]
     place, kind = (newest.parts, "delta") if newest else (0, "snapshot")
     point_to(making, generation, files)
-    row = (generation, place, kind, made.epoch, files.part.name, files.part.length, files.part.sha256, files.job)
-    db.execute("INSERT INTO part VALUES (?, ?, ?, ?, ?, ?, ?, ?)", row)
+    add_part(making, (generation, place), kind, made.epoch, files)
     ranges = ((generation, place, log, low, high) for log, (low, high) in made.plan.ranges.items())
     db.executemany("INSERT INTO part_range VALUES (?, ?, ?, ?, ?)", ranges)
     issuers = ((generation, place, issuer) for issuer in made.plan.crls)
@@ -57,12 +59,33 @@ def name_part(making: Making, newest: Newest | None, made: Made, files: Files) -
     db.executemany("UPDATE issuer SET enrolled_at = ? WHERE id = ?", enrolled)
 
 
-def point_to(making: Making, generation: int, files: Files) -> None:
-    """Names a chain's newest ledger and store."""
-    making.db.execute(
-        "UPDATE chain SET ledger = ?, store = ?, store_length = ?, store_sha256 = ? WHERE generation = ?",
-        (files.ledger, files.store.name, files.store.length, files.store.sha256, generation),
-    )
+def begin_chain(making: Making, generation: int) -> None:
+    """Begins a chain whose files aren't named yet; the first one says for all by which places the history is cut."""
+    making.db.execute("INSERT INTO chain VALUES (?, '', '', 0, x'', 0, NULL)", (generation,))
+    if generation == 1 and making.config.places is not None:
+        making.state.set_meta("places", making.config.places.text())
+        making.state.set_meta("format", PLACED)
+
+
+def point_to(making: Making, generation: int, files: Mapping[str, Files]) -> None:
+    """Names the newest ledger and store of each place."""
+    for name, each in files.items():
+        row = (each.ledger, each.store.name, each.store.length, each.store.sha256, generation)
+        if name == WHOLE:
+            change = "UPDATE chain SET ledger = ?, store = ?, store_length = ?, store_sha256 = ? WHERE generation = ?"
+            making.db.execute(change, row)
+        else:
+            columns = "(ledger, store, store_length, store_sha256, generation, name)"
+            making.db.execute(f"INSERT OR REPLACE INTO place_chain {columns} VALUES (?, ?, ?, ?, ?, ?)", (*row, name))
+
+
+def add_part(making: Making, at: tuple[int, int], kind: str, epoch: int, files: Mapping[str, Files]) -> None:
+    """Names the parts of all places behind the others of their chains: `at` is generation and place."""
+    rows = {name: (each.part.name, each.part.length, each.part.sha256, each.job) for name, each in files.items()}
+    whole = rows.pop(WHOLE, ("", 0, b"", None))
+    making.db.execute("INSERT INTO part VALUES (?, ?, ?, ?, ?, ?, ?, ?)", (*at, kind, epoch, *whole))
+    placed = ((*at, name, *row) for name, row in rows.items())
+    making.db.executemany("INSERT INTO place_part VALUES (?, ?, ?, ?, ?, ?, ?)", placed)
 
 
 def accept(making: Making, made: Made) -> None:
@@ -98,9 +121,10 @@ def forget(making: Making, generation: int, cut: int) -> None:
     drop_segments(making)
     ended = "SELECT generation FROM chain WHERE ended < ?"
     before = (making.moment - making.config.keep,)
-    rows = db.execute(f"SELECT file FROM part WHERE generation IN ({ended})", before)
+    rows = db.execute(f"SELECT file FROM any_part WHERE generation IN ({ended})", before)
     making.former += [state.path(name) for (name,) in rows]
-    db.execute(f"DELETE FROM part WHERE generation IN ({ended})", before)
+    for table in ("part", "place_part", "place_chain"):
+        db.execute(f"DELETE FROM {table} WHERE generation IN ({ended})", before)
     db.execute("DELETE FROM chain WHERE ended < ?", before)
 
 
@@ -124,7 +148,12 @@ def sizes(making: Making) -> Sizes:
     return {issuer: (universe, revoked.get(issuer, 0)) for issuer, universe in held}
 
 
-def epoch_row(making: Making, newest: Newest | None, made: Made, files: Files) -> EpochRow:
+def enrolled_universe(making: Making, plan: Plan) -> int:
+    """How many identities the chain holds of the issuers that a plan enrols."""
+    return sum(universe for issuer, (universe, _) in sizes(making).items() if issuer in plan.crls)
+
+
+def epoch_row(making: Making, newest: Newest | None, made: Made, files: Mapping[str, Files]) -> EpochRow:
     """What an epoch came to."""
     config, counted = making.config, sizes(making)
     (late,) = making.db.execute("SELECT count(*) FROM temp.late").fetchone()
@@ -133,7 +162,7 @@ def epoch_row(making: Making, newest: Newest | None, made: Made, files: Files) -
         moment=making.moment,
         generation=newest.generation if newest else 1,
         kind="delta" if newest else "snapshot",
-        length=files.part.length,
+        length=sum(each.part.length for each in files.values()),
         parts=newest.parts + 1 if newest else 1,
         shown=made.shown,
         waiting=making.waiting(),

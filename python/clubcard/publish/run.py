@@ -16,6 +16,7 @@ from ..lock import Locked, locked
 from ..minisign import MinisignError
 from ..progress import Progress, Silent
 from ..telling import FULL, refused_by_system
+from . import chain
 from .alarms import Alarm, Alarms
 from .chain import EpochRow
 from .config import Config
@@ -47,9 +48,11 @@ class Outcome:
 
 @contextlib.contextmanager
 def opened(config: Config) -> Iterator[State]:
-    """The state, without what a killed run left."""
+    """The state, without what a killed run left. Raises StateError where its chain has another plan of places than
+    CONFIG."""
     state = State.open(config.state)
     try:
+        chain.test_places(config, state)
         state.sweep()
         yield state
     finally:

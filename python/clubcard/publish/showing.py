@@ -8,6 +8,7 @@ from collections.abc import Collection, Iterator, Mapping
 from dataclasses import dataclass
 
 from ..jobs import JobWriter
+from ..places import WHOLE, Places
 from . import rules
 from .state import State, StateError
 
@@ -66,13 +67,26 @@ class Showing:
         query = f"SELECT issuer, count(*) FROM ({self._chosen()}) GROUP BY issuer"
         return dict(self._db.execute(query, self._words))
 
-    def fresh(self) -> int:
-        """How many identities that the ledger doesn't hold would be shown."""
+    def fresh(self, places: Places | None) -> dict[str, int]:
+        """How many identities that no ledger holds would be shown, by places."""
         query = f"""
-            SELECT count(*) FROM (
-                SELECT DISTINCT e.issuer, e.serial FROM ({self._chosen()}) c CROSS JOIN entry e ON e.id = c.id
-                WHERE NOT EXISTS (SELECT 1 FROM identity k WHERE k.issuer = e.issuer AND k.serial = e.serial))"""
-        return int(self._db.execute(query, self._words).fetchone()[0])
+            SELECT DISTINCT e.issuer, e.serial FROM ({self._chosen()}) c CROSS JOIN entry e ON e.id = c.id
+            WHERE NOT EXISTS (SELECT 1 FROM identity k WHERE k.issuer = e.issuer AND k.serial = e.serial)"""
+        return self._by_place(places, query)
+
+    def held(self, places: Places | None) -> dict[str, int]:
+        """How many identities the ledgers hold, by places."""
+        return self._by_place(places, "SELECT issuer, serial FROM identity")
+
+    def _by_place(self, places: Places | None, identities: str) -> dict[str, int]:
+        """How many of the identities (issuer, serial) of a query are at each place."""
+        if places is None:
+            (count,) = self._db.execute(f"SELECT count(*) FROM ({identities})", self._words).fetchone()
+            return {WHOLE: int(count)}
+        self._db.create_function("place_of", 2, places.place_of, deterministic=True)
+        query = f"""SELECT place_of(i.key, k.serial), count(*) FROM ({identities}) k
+            CROSS JOIN issuer i ON i.id = k.issuer GROUP BY 1"""
+        return dict(self._db.execute(query, self._words))
 
     def select(self) -> int:
         """Chooses what is shown; how many entries these are."""

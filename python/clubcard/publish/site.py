@@ -14,7 +14,8 @@ from collections.abc import Iterator
 from pathlib import Path
 
 from .. import minisign
-from ..manifest import Coverage, Issuer, Manifest, Part, part_path, to_json
+from ..manifest import Chain, Coverage, Issuer, Manifest, Part, part_path, to_json
+from ..places import WHOLE
 from ..placing import DamagedFile, make_folder, place, place_copy, remove_others, settle, sweep
 from . import chain, charts, metrics, overview, report
 from .config import Config
@@ -35,23 +36,32 @@ class SiteError(Exception):
         self.remedy = remedy
 
 
+def _chain_of(row: chain.PlaceRow) -> Chain:
+    """A place's chain in the manifest."""
+    parts = tuple(Part(part.kind, part.epoch, part.length, part.sha256) for part in row.parts)
+    return Chain(row.name, parts, row.store_length, row.store_sha256)
+
+
 def manifest_of(release: chain.Release) -> Manifest:
     """The manifest of a release. It says nothing of today's CONFIG, so that one epoch has one manifest."""
-    row = release.row
+    row, chains = release.row, tuple(map(_chain_of, release.chains))
+    whole = Chain(WHOLE, (), 0, b"") if release.places else chains[0]
     return Manifest(
         name=row.name,
         generation=release.generation,
         epoch=release.epoch,
         moment=release.moment,
         valid_until=row.valid_until,
-        parts=tuple(Part(part.kind, part.epoch, part.length, part.sha256) for part in release.parts),
-        store_length=release.store_length,
-        store_sha256=release.store_sha256,
+        parts=whole.parts,
+        store_length=whole.store_length,
+        store_sha256=whole.store_sha256,
         coverage=tuple(Coverage(held.log, held.name, held.low, held.high) for held in row.coverage),
         issuers=tuple(
             Issuer(held.issuer, held.name, held.enrolled, held.enrolled_at, held.reason) for held in row.issuers
         ),
         next_key=row.next_key,
+        places=release.places,
+        placed=chains if release.places else (),
     )
 
 

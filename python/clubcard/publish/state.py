@@ -15,10 +15,13 @@ from importlib import resources
 from pathlib import Path
 from typing import Literal
 
-from ..placing import sync
+from ..places import WHOLE, Places
+from ..placing import make_folder, sync
 
 Folder = Literal["spool", "crls", "chain", "work"]
 FORMAT = "1"
+PLACED = "2"
+"""The format of a state whose history is cut into places, which earlier programs don't read."""
 CACHE = 65536
 """How much memory the database takes for its pages, in KiB."""
 # Where rows name files: table, column.
@@ -29,11 +32,20 @@ _NAMES = [
     ("chain", "store"),
     ("part", "file"),
     ("part", "job"),
+    ("place_chain", "ledger"),
+    ("place_chain", "store"),
+    ("place_part", "file"),
+    ("place_part", "job"),
 ]
 
 
 class StateError(Exception):
     """The state can't be used; the text says why and what to do."""
+
+
+def _schema(name: str) -> str:
+    """The statements in a file of this package."""
+    return resources.files(__package__).joinpath(f"{name}.sql").read_text(encoding="utf-8")
 
 
 @dataclass
@@ -60,12 +72,18 @@ class State:
         return state
 
     def _begin(self) -> None:
-        """Makes the tables of a new state, and tests the format of an old one."""
-        if not self.db.execute("SELECT 1 FROM sqlite_master WHERE name = 'meta'").fetchone():
-            schema = resources.files(__package__).joinpath("schema.sql").read_text(encoding="utf-8")
-            self.db.executescript(f"BEGIN IMMEDIATE; {schema}; INSERT INTO meta VALUES ('format', '{FORMAT}'); COMMIT;")
-        if self.meta("format") != FORMAT:
-            raise StateError(f"{self.folder}: a state of format {self.meta('format')}, and this program reads {FORMAT}")
+        """Makes the tables of a new state, and tests the format of an old one, which may lack those of places."""
+        if not self._has("meta"):
+            begun = f"{_schema('schema')}; INSERT INTO meta VALUES ('format', '{FORMAT}')"
+            self.db.executescript(f"BEGIN IMMEDIATE; {begun}; {_schema('places')}; COMMIT;")
+        if self.meta("format") not in (FORMAT, PLACED):
+            raise StateError(f"{self.folder}: a state of format {self.meta('format')}, and this program reads {PLACED}")
+        if not self._has("any_part"):
+            self.db.executescript(f"BEGIN IMMEDIATE; {_schema('places')}; COMMIT;")
+
+    def _has(self, name: str) -> bool:
+        """Whether there is a table or a view of a name."""
+        return self.db.execute("SELECT 1 FROM sqlite_master WHERE name = ?", (name,)).fetchone() is not None
 
     def close(self) -> None:
         self.db.close()
@@ -101,9 +119,19 @@ class State:
         row = self.db.execute("SELECT id FROM issuer WHERE key = ?", (key,)).fetchone()
         return int(row[0])
 
-    def new_file(self, folder: Folder, suffix: str) -> Path:
-        """A name that no file had before. It counts once a row names it."""
-        return self.folder / folder / f"{secrets.token_hex(8)}{suffix}"
+    def places(self) -> Places | None:
+        """The plan by which the state's history is cut; None where it isn't."""
+        text = self.meta("places")
+        return None if text is None else Places.of_text(text)
+
+    def new_file(self, folder: Folder, suffix: str, place: str = WHOLE) -> Path:
+        """A name that no file had before, where the history is cut in a folder of the place. It counts once a row names
+        it."""
+        inner = self.folder / folder
+        if place != WHOLE:
+            inner = inner / place
+            make_folder(inner)
+        return inner / f"{secrets.token_hex(8)}{suffix}"
 
     def named(self, path: Path) -> str:
         """How a row names a file."""
@@ -127,8 +155,8 @@ class State:
             if name
         }
         for folder in ("spool", "crls", "chain"):
-            for path in (self.folder / folder).iterdir():
-                if self.named(path) not in held:
+            for path in list((self.folder / folder).rglob("*")):
+                if not path.is_dir() and self.named(path) not in held:
                     path.unlink()
         for path in (self.folder / "work").iterdir():
             shutil.rmtree(path) if path.is_dir() else path.unlink()

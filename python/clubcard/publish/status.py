@@ -99,7 +99,11 @@ class Status:
     is_valid: bool
     """Whether the manifest is still valid."""
     store_length: int | None
+    """Of the stores of all places together, where the history is cut."""
     store_sha256: str | None
+    """null where the history is cut."""
+    places: str | None
+    """By what it is cut; null where it isn't."""
     issuers: tuple[IssuerStatus, ...]
     logs: tuple[LogStatus, ...]
     waiting: tuple[WaitingStatus, ...]
@@ -118,7 +122,8 @@ def gather(config: Config, state: State, now: int) -> Status:
         valid_until=None if row is None else to_iso(row.valid_until),
         is_valid=row is not None and now <= row.valid_until,
         store_length=None if release is None else release.store_length,
-        store_sha256=None if release is None else release.store_sha256.hex(),
+        store_sha256=None if release is None or release.places else release.chains[0].store_sha256.hex(),
+        places=None if release is None or release.places is None else str(release.places),
         issuers=tuple(_issuer(state, issuer, row) for issuer in config.issuers),
         logs=tuple(_logs(state, row)),
         waiting=tuple(
@@ -177,6 +182,8 @@ def lines(status: Status) -> Iterator[str]:
     else:
         yield f"{status.name}: epoch {new.epoch} of {new.moment}, generation {new.generation}, {new.parts} parts"
         yield f"  {new.universe} certificates, {new.revoked} of them revoked; store of {status.store_length} bytes"
+        if status.places is not None:
+            yield f"  at places: {status.places}"
         yield f"  valid until {status.valid_until}" + ("" if status.is_valid else ": it isn't any more")
         yield from (f"  {alarm}" for alarm in new.alarms)
     for issuer in status.issuers:
