@@ -21,15 +21,20 @@ from typing import TYPE_CHECKING, Any
 
 from .answers import Refusal, Refused, Verdict
 from .octets import serial_from_int
-from .places import By
+from .places import By, Places, PlacesError
 
 if TYPE_CHECKING:
+    from .fleet import Fleet, FleetError
     from .store import Facts, Part, Query, Sighting, Store, check_part, place
 
 __all__ = [
     "By",
     "Facts",
+    "Fleet",
+    "FleetError",
     "Part",
+    "Places",
+    "PlacesError",
     "Query",
     "Refusal",
     "Refused",
@@ -46,6 +51,6 @@ def __getattr__(name: str) -> Any:
     """What wants the library, which is loaded when it is first asked for."""
     if name not in __all__:
         raise AttributeError(f"module {__name__} has no attribute {name}")
-    from . import store
+    from . import fleet, store
 
-    return getattr(store, name)
+    return getattr(fleet if name.startswith("Fleet") else store, name)

@@ -147,7 +147,7 @@ def test_faults_of_stores(small: Small) -> None:
         result = ends(text, 7, "ask", small[name], small["elm-good.chain"])
         assert "it isn't a store" in result.stderr and not result.stdout
     ends("the store can't be read (No such file", 7, "ask", small["absent"], small["elm-good.chain"])
-    ends("the store can't be read (Is a directory", 7, "ask", small.folder, small["elm-good.chain"])
+    ends("the stores can't be asked", 7, "ask", small.folder, small["elm-good.chain"])
 
 
 @pytest.mark.parametrize("refusal", Refusal)

@@ -1,5 +1,6 @@
 """`clubcardctl explain`, against a chain's own record."""
 
+import hashlib
 import json
 import weakref
 from pathlib import Path
@@ -49,7 +50,7 @@ def all_explained(story: Story) -> list[dict[str, Any]]:
         Answer("any", Status[verdict.name], verdict, identity=identity)
         for verdict, identity in zip(verdicts, identities, strict=True)
     ]
-    parts = explaining.read_parts(opened.octets, {})
+    parts = explaining.read_parts(opened.octets_at("whole"), {})
     return [each.members() for each in explaining.explain(parts, answers)]
 
 
@@ -178,10 +179,10 @@ def test_with_the_manifest(story: Story, tmp_path: Path) -> None:
     """The moment of the newest epoch stands in the manifest of this store; and what the store says of an issuer that is
     away is explained too."""
     one = next(each for each in story.certificates if each.first == EPOCHS - 1)
-    found, newest = open_store(str(story.store)), story.epochs[-1]
+    octets, newest = story.store.read_bytes(), story.epochs[-1]
     away = manifests.Issuer(one.issuer, "Elm", False, BEGIN, "no CRL")
     parts = (manifests.Part("snapshot", newest.epoch, 1, bytes(32)),)
-    head = ("example", 1, newest.epoch, newest.moment, newest.moment, parts, 1, found.store_digest)
+    head = ("example", 1, newest.epoch, newest.moment, newest.moment, parts, 1, hashlib.sha256(octets).digest())
     (tmp_path / "manifest.json").write_bytes(manifests.to_json(manifests.Manifest(*head, (), (away,), None)))
     told = explained(story.store, one, "--manifest", tmp_path / "manifest.json", "--max-away", "1d")
     assert (told["verdict"], told["store"]) == ("not-enrolled", "revoked")

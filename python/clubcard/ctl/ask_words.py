@@ -20,7 +20,7 @@ from .words import NoStore
 
 if TYPE_CHECKING:
     from .asking import Away
-    from .stores import Opened
+    from .stores import Opened, OpenedPlaces
 
 Command = TypeVar("Command", bound=Callable[..., Any])
 FILE = click.Path()
@@ -107,7 +107,7 @@ _OPTIONS = [
         "not-enrolled, whatever the store says.",
     ),
     click.option("--json", "as_json", is_flag=True, help="Print JSON."),
-    click.argument("store", metavar="STORE|DEVICE", type=FILE),
+    click.argument("store", metavar="STORE|DEVICE|FOLDER", type=FILE),
     click.argument("certificates", nargs=-1, metavar="[CERT..]", type=FILE),
 ]
 
@@ -128,7 +128,7 @@ def words_of(given: dict[str, Any]) -> Words:
     return words
 
 
-def opened(store: str, manifest: str | None, max_away: str) -> tuple["Opened", "Away | None"]:
+def opened(store: str, manifest: str | None, max_away: str) -> tuple["Opened | OpenedPlaces", "Away | None"]:
     """The store of a name, and who is away by the manifest of another one."""
     most = notations.away(max_away)
     try:
@@ -186,7 +186,7 @@ def end(answers: Sequence[Answer]) -> NoReturn:
 @asking_words
 @click.option("--count", is_flag=True, help="Print how many answers there are of each word, and not which.")
 def ask(store: str, manifest: str | None, max_away: str, count: bool, as_json: bool, **given: Any) -> None:
-    """Asks STORE, or the one in DEVICE, about each CERT, by its timestamps.
+    """Asks STORE, the one in DEVICE, or in FOLDER the one of CERT's place, about each CERT, by its timestamps.
 
     CERT is a file in PEM or DER, a folder of such files, or - for standard input. Of several certificates in a file the
     first is asked about, and each that is no authority's and issued none of them. Its issuer's certificate must

@@ -9,6 +9,7 @@ from typing import TypeVar
 import click
 
 from ..answers import Refusal, Refused, Verdict
+from ..fleet import Fleet, FleetError
 from ..pki import Certificate, PkiError, timestamps
 from ..manifest import Manifest, ManifestError, from_json
 from ..store import Query, Sighting, Store
@@ -19,6 +20,8 @@ from .verdicts import Answer, Identity, Status, word_of
 from .words import NoStore
 
 Item = TypeVar("Item")
+Held = Store | Fleet
+"""What is asked."""
 # From so many certificates on a bar is shown.
 _MANY = 200
 TWO_SERIALS = "two-serials"
@@ -65,7 +68,7 @@ def read_manifest(name: str) -> Manifest:
         raise NoStore(f"{name}: this manifest isn't read ({why}); {remedy}") from error
 
 
-def answers_of(store: Store, identities: Sequence[Identity]) -> list[Verdict | Refusal]:
+def answers_of(store: Held, identities: Sequence[Identity]) -> list[Verdict | Refusal]:
     """What a store says of each."""
     queries = [
         Query(each.issuer, each.serial, [Sighting(log, time) for log, time in each.sightings]) for each in identities
@@ -74,15 +77,20 @@ def answers_of(store: Store, identities: Sequence[Identity]) -> list[Verdict | R
         return store.query_each(queries)
     except Refused as refused:
         raise NoStore(f"the store isn't read ({refused}); {remedy_of(refused.refusal)}") from refused
+    except FleetError as error:
+        raise NoStore(str(error)) from error
 
 
-def _unread(store: Store, asked: Asked, issuer: Certificate) -> Answer:
+def _unread(store: Held, asked: Asked, issuer: Certificate) -> Answer:
     """What is said of a certificate that has no timestamps, or isn't read: what the library says of it."""
     identity = Identity(issuer.key_hash(), asked.certificate.serial, ())
     try:
-        verdict = store.query_cert(asked.certificate.der, issuer.der)
+        own = store.store_of(identity.issuer, identity.serial) if isinstance(store, Fleet) else store
+        verdict = own.query_cert(asked.certificate.der, issuer.der)
     except Refused as refused:
         return _refused(Answer(asked.name, None), refused.refusal)
+    except FleetError as error:
+        raise NoStore(str(error)) from error
     return Answer(asked.name, Status[verdict.name], verdict, identity=identity)
 
 
@@ -92,7 +100,7 @@ def _refused(answer: Answer, refusal: Refusal) -> Answer:
     return replace(answer, status=status, fault=word_of(refusal), why=f"{answer.name}: {remedy_of(refusal)}")
 
 
-def _identified(store: Store, asked: Asked, given: Sequence[Placed], others: Sequence[Certificate]) -> Answer:
+def _identified(store: Held, asked: Asked, given: Sequence[Placed], others: Sequence[Certificate]) -> Answer:
     """A certificate with what to ask of it, or why it can't be asked about."""
     try:
         issuer = issuer_of(asked, given, others)
@@ -116,7 +124,7 @@ def _shown(items: Sequence[Item]) -> Iterator[Item]:
         yield from bar
 
 
-def identified(store: Store, words: Words) -> Iterator[Answer]:
+def identified(store: Held, words: Words) -> Iterator[Answer]:
     """What words name, each with what to ask of it, or with the whole answer where it can't be asked about."""
     by_serial = words.by_serial()
     given = given_issuers(words.issuers)
@@ -132,12 +140,12 @@ def identified(store: Store, words: Words) -> Iterator[Answer]:
         yield Answer(f"serial {by_serial.serial.hex()}", None, identity=by_serial)
 
 
-def _at_both_ends(store: Store, identity: Identity) -> list[Verdict | Refusal]:
+def _at_both_ends(store: Held, identity: Identity) -> list[Verdict | Refusal]:
     """What a store says of a serial at the first and at the last of the times that its words may be."""
     return answers_of(store, [identity, replace(identity, sightings=identity.latest)])
 
 
-def _with_verdict(store: Store, answer: Answer, said: Verdict | Refusal) -> Answer:
+def _with_verdict(store: Held, answer: Answer, said: Verdict | Refusal) -> Answer:
     """An answer with what the store says. Where words may be another serial, of which it says another thing, it is a
     fault; where they may be another time, it is not-covered."""
     if isinstance(said, Refusal):
@@ -159,7 +167,7 @@ def _with_verdict(store: Store, answer: Answer, said: Verdict | Refusal) -> Answ
     return replace(answer, status=Status[said.name], verdict=said)
 
 
-def ask(store: Store, words: Words, away: Away | None = None) -> list[Answer]:
+def ask(store: Held, words: Words, away: Away | None = None) -> list[Answer]:
     """What a store says of all that words name."""
     found = list(identified(store, words))
     wanted = [each.identity for each in found if each.identity is not None and each.is_open]

@@ -11,7 +11,7 @@ from .ask_words import Guarded, asking_words, end, opened, tell, words_of
 @click.command(cls=Guarded)
 @asking_words
 def explain(store: str, manifest: str | None, max_away: str, as_json: bool, **given: Any) -> None:
-    """Tells which part of STORE, or of the one in DEVICE, says what of each CERT.
+    """Tells which part of STORE, of the one in DEVICE, or in FOLDER of the one of CERT's place, says what of each CERT.
 
     CERT and the words in its place are those of `ask`, and so are the statuses. Told are the verdict; since which part
     the certificate is revoked; of each timestamp, since which part and by which range it is covered; and of each part
@@ -25,8 +25,7 @@ def explain(store: str, manifest: str | None, max_away: str, as_json: bool, **gi
 
     kept = [answer for answer in asking.ask(found.store, words, away) if answer.status is not None]
     moments = {away.manifest.epoch: away.manifest.moment} if away else {}
-    parts = explaining.read_parts(found.octets, moments)
-    explained = explaining.explain(parts, kept)
+    explained = explaining.explain_by(found, kept, moments)
     if as_json:
         click.echo("[" + ",\n ".join(json.dumps(each.members()) for each in explained) + "]")
     for each in () if as_json else explained:

@@ -6,7 +6,7 @@ The verdicts are the library's, of each of these stores. What a part covers and 
 from collections.abc import Sequence
 from dataclasses import dataclass
 
-from ..answers import Refusal, Verdict
+from ..answers import Refusal, Refused, Verdict
 from ..layout.fields import Fields
 from ..layout.part import PartFound
 from ..layout.store import StoreFound, read_store
@@ -15,6 +15,7 @@ from ..store import Store
 from ..times import nearest_iso
 from .asking import answers_of
 from .known import printed
+from .stores import Opened, OpenedPlaces
 from .verdicts import Answer, Identity, timestamp_members, word_of
 
 # Where a store's count stands (docs/FORMATS.md, "Store").
@@ -218,3 +219,25 @@ def explain(parts: Sequence[Part], answers: Sequence[Answer]) -> list[Explained]
         _explained(answer, parts, rows[id(answer)]) if id(answer) in rows else Explained(answer, ())
         for answer in answers
     ]
+
+
+def explain_by(found: Opened | OpenedPlaces, answers: Sequence[Answer], moments: dict[int, int]) -> list[Explained]:
+    """Explains answers, each by the store that gave it. Moments (milliseconds) are given by their epochs."""
+    by_place: dict[str | None, list[Answer]] = {}
+    for answer in answers:
+        by_place.setdefault(_place_of(found, answer), []).append(answer)
+    explained: dict[int, Explained] = {}
+    for place, some in by_place.items():
+        parts = [] if place is None else read_parts(found.octets_at(place), moments)
+        explained |= {id(each.answer): each for each in explain(parts, some)}
+    return [explained[id(answer)] for answer in answers]
+
+
+def _place_of(found: Opened | OpenedPlaces, answer: Answer) -> str | None:
+    """Whose store gave an answer; None where none did."""
+    if answer.identity is None:
+        return None
+    try:
+        return found.place_of(answer.identity.issuer, answer.identity.serial)
+    except Refused:
+        return None

@@ -3,10 +3,13 @@
 import hashlib
 import os
 from dataclasses import dataclass
+from pathlib import Path
 from typing import BinaryIO
 
 from ..answers import Refusal, Refused
+from ..fleet import Fleet, FleetError
 from ..manifest import Manifest
+from ..places import WHOLE
 from ..store import Store
 from .words import NoStore
 
@@ -67,7 +70,35 @@ class Opened:
 
     def is_of(self, manifest: Manifest) -> bool:
         """Whether it is the store that a manifest names."""
-        return self.store_digest == manifest.store_sha256
+        return manifest.places is None and self.store_digest == manifest.store_sha256
+
+    def place_of(self, issuer: bytes, serial: bytes) -> str:
+        """The place whose store is asked about a certificate."""
+        return WHOLE
+
+    def octets_at(self, place: str) -> bytes:
+        """The bytes of the store of a place."""
+        return self.octets
+
+
+@dataclass(frozen=True)
+class OpenedPlaces:
+    """The stores of all places in a folder, of which the certificate's own is asked."""
+
+    store: Fleet
+
+    def is_of(self, manifest: Manifest) -> bool:
+        """Whether they are the stores that a manifest names."""
+        held = self.store.manifest
+        return held is not None and (manifest.places, manifest.chains) == (held.places, held.chains)
+
+    def place_of(self, issuer: bytes, serial: bytes) -> str:
+        """The place whose store is asked about a certificate."""
+        return self.store.places.place_of(issuer, serial)
+
+    def octets_at(self, place: str) -> bytes:
+        """The bytes of the store of a place."""
+        return self.store.octets_at(place)
 
 
 def _field(name: str, file: BinaryIO, at: int, width: int) -> bytes:
@@ -109,8 +140,13 @@ def octets_of(name: str) -> bytes:
         raise NoStore(f"{name}: the store can't be read ({error.strerror}); look at its name and rights") from error
 
 
-def open_store(name: str) -> Opened:
-    """The store in a file or in a device, which is one."""
+def open_store(name: str) -> Opened | OpenedPlaces:
+    """The store in a file or in a device, which is one; or those in a folder that clubcard-update keeps."""
+    if Path(name).is_dir():
+        try:
+            return OpenedPlaces(Fleet.from_folder(name))
+        except (FleetError, OSError) as error:
+            raise NoStore(f"{name}: the stores can't be asked ({error})") from error
     octets = octets_of(name)
     store = Store(octets)
     try:

@@ -1,6 +1,7 @@
 """CONFIG: where the site is, by which key it is signed, and where the store is kept."""
 
 import os
+import re
 from dataclasses import dataclass
 from pathlib import Path
 
@@ -11,6 +12,8 @@ __all__ = ["Config", "ConfigError", "load"]
 
 MOST_CAPACITY = 1 << 40
 """The most bytes that a slot of a device may have (docs/FORMATS.md, "Device")."""
+# The names in a folder of stores (folder.py).
+_OWN = re.compile(r"manifest\.json|[0-9a-f]{64}\.store|\..*\.new")
 _KEYS = "site key store device capacity state max_age program".split()
 _KEY = '"BASE64", the second line of the publisher\'s public key file'
 
@@ -26,7 +29,7 @@ class Config:
     key: str
     """The pinned public key of minisign: the Base64 of its line."""
     place: Path
-    """The file of the store, or of the device that holds it."""
+    """The file of the store, or of the device that holds it; the folder of stores where the site has places."""
     capacity: int | None
     """How many bytes a slot of the device has; None where `place` is the store itself."""
     state: Path
@@ -85,9 +88,14 @@ def _place(table: Table, base: Path) -> Path:
         raise table.fault('it names a store or a device, one of both: write store = "revocation.store"')
     (key,) = named
     place = Path(os.path.realpath(base / table.text(key, f'"revocation.{key}"')))
-    if place.exists() and not place.is_file():
+    if place.exists() and not (place.is_file() or key == "store" and _is_own(place)):
         raise table.wrong(key, f"{place} is no file: name one, which is replaced by a new one")
     return place
+
+
+def _is_own(place: Path) -> bool:
+    """Whether a folder holds nothing but stores of places, or is empty: all else in it might be somebody's."""
+    return place.is_dir() and all(_OWN.fullmatch(path.name) for path in place.iterdir())
 
 
 def _capacity(table: Table) -> int | None:

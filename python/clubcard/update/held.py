@@ -6,7 +6,7 @@ from dataclasses import dataclass
 from pathlib import Path
 from typing import BinaryIO
 
-from ..manifest import Manifest
+from ..manifest import Chain
 
 _STORE = b"CLUBSTOR\x01"
 _HEAD = len(_STORE) + 1
@@ -56,20 +56,20 @@ def device_at(path: Path) -> Device | None:
     return Device(capacity, Held(path, offset, int.from_bytes(length, "big")))
 
 
-def length_of(manifest: Manifest) -> int:
-    """How many bytes the parts of a manifest make as a store."""
-    return _HEAD + sum(part.length for part in manifest.parts)
+def length_of(chain: Chain) -> int:
+    """How many bytes the parts of a chain make as a store."""
+    return _HEAD + sum(part.length for part in chain.parts)
 
 
-def parts_held(held: Held | None, manifest: Manifest) -> int:
-    """How many of a manifest's parts a store has, where these are all that it has; else 0."""
+def parts_held(held: Held | None, chain: Chain) -> int:
+    """How many of a chain's parts a store has, where these are all that it has; else 0."""
     if held is None:
         return 0
     with open(held.path, "rb") as file:
         file.seek(held.offset)
         begin = file.read(_HEAD)
         count = begin[-1] if begin[:-1] == _STORE else 0
-        parts = manifest.parts[:count]
+        parts = chain.parts[:count]
         if len(parts) < count or held.length != _HEAD + sum(part.length for part in parts):
             return 0
         return count if all(_digest(file, part.length) == part.sha256 for part in parts) else 0

@@ -13,7 +13,7 @@ from pathlib import Path
 from typing import Protocol
 
 from ..engine import Engine, EngineError
-from ..manifest import Manifest
+from ..manifest import Chain
 from ..placing import MODE, settle, sync
 from .engines import told
 from .faults import NotReached
@@ -29,12 +29,12 @@ class Place(Protocol):
     def held(self) -> Held | None:
         """The store that is there; None where there is none that could go on."""
 
-    def room(self, manifest: Manifest) -> None:
-        """Raises NotReached where a manifest's store can't be kept there."""
+    def room(self, chain: Chain) -> None:
+        """Raises NotReached where a chain's store can't be kept there."""
 
-    def install(self, manifest: Manifest, count: int, files: Sequence[Path]) -> None:
-        """Makes the store a manifest's, by the parts that it lacks; the store has `count` parts of it, or is another
-        one where that is 0."""
+    def install(self, chain: Chain, count: int, files: Sequence[Path]) -> None:
+        """Makes the store a chain's, by the parts that it lacks; the store has `count` parts of it, or is another one
+        where that is 0."""
 
 
 class StoreFile:
@@ -47,16 +47,21 @@ class StoreFile:
         """The store that is there."""
         return store_at(self.path)
 
-    def room(self, manifest: Manifest) -> None:
+    def room(self, chain: Chain) -> None:
         """A file has room for each store that the disk has room for."""
 
-    def install(self, manifest: Manifest, count: int, files: Sequence[Path]) -> None:
+    def install(self, chain: Chain, count: int, files: Sequence[Path]) -> None:
         """Writes a new store and renames it."""
-        with _faults(), _drafts(self.path) as drafts:
-            new = _built(self.engine, self.path if count else None, files, drafts)
-            _read_back(store_at(new), manifest)
-            self.engine.query(new, *_NOBODY)
-            _rename(new, self.path)
+        put_store(self.engine, self.path if count else None, files, chain, self.path)
+
+
+def put_store(engine: Engine, old: Path | None, files: Sequence[Path], chain: Chain, path: Path) -> None:
+    """Writes a chain's store, of a former one and of the parts that this lacks, and gives it its name."""
+    with _faults(), _drafts(path) as drafts:
+        new = _built(engine, old, files, drafts)
+        _read_back(store_at(new), chain)
+        engine.query(new, *_NOBODY)
+        _rename(new, path)
 
 
 class DeviceFile:
@@ -70,21 +75,21 @@ class DeviceFile:
         device = device_at(self.path)
         return device.held if device is not None and device.capacity == self.capacity else None
 
-    def room(self, manifest: Manifest) -> None:
+    def room(self, chain: Chain) -> None:
         """Whether a slot has room."""
-        if manifest.store_length > self.capacity:
-            wants = f"the manifest's store has {manifest.store_length} bytes, and a slot {self.capacity}"
+        if chain.store_length > self.capacity:
+            wants = f"the manifest's store has {chain.store_length} bytes, and a slot {self.capacity}"
             raise NotReached(f"{self.path}: {wants}: give a greater capacity in CONFIG")
 
-    def install(self, manifest: Manifest, count: int, files: Sequence[Path]) -> None:
+    def install(self, chain: Chain, count: int, files: Sequence[Path]) -> None:
         """Goes on with the device, with a copy, or with a new one."""
         with _faults(), _drafts(self.path) as drafts:
             if count and len(files) == 1:
                 self.engine.device_install(self.path, files[0])
-                self._read_back(self.path, manifest)
+                self._read_back(self.path, chain)
                 return
             new = self._copied(drafts, files) if count else self._formatted(drafts, files)
-            self._read_back(new, manifest)
+            self._read_back(new, chain)
             _rename(new, self.path)
 
     def _copied(self, drafts: Sequence[Path], files: Sequence[Path]) -> Path:
@@ -99,10 +104,10 @@ class DeviceFile:
         self.engine.device_format(drafts[2], self.capacity, _built(self.engine, None, files, drafts[:2]))
         return drafts[2]
 
-    def _read_back(self, path: Path, manifest: Manifest) -> None:
+    def _read_back(self, path: Path, chain: Chain) -> None:
         """Whether the device holds the manifest's store, on the disk."""
         device = device_at(path)
-        _read_back(device.held if device is not None else None, manifest)
+        _read_back(device.held if device is not None else None, chain)
         self.engine.device_query(path, *_NOBODY)
 
 
@@ -156,7 +161,7 @@ def _built(engine: Engine, store: Path | None, files: Sequence[Path], drafts: Se
     return store
 
 
-def _read_back(held: Held | None, manifest: Manifest) -> None:
+def _read_back(held: Held | None, chain: Chain) -> None:
     """Whether the bytes on the disk are the manifest's store. They are synced, and read from the disk again where the
     system can forget them."""
     if held is not None:
@@ -164,7 +169,7 @@ def _read_back(held: Held | None, manifest: Manifest) -> None:
         number = os.open(held.path, os.O_RDONLY)
         os.posix_fadvise(number, 0, 0, os.POSIX_FADV_DONTNEED)
         os.close(number)
-        if held.length == manifest.store_length and digest_of_held(held) == manifest.store_sha256:
+        if held.length == chain.store_length and digest_of_held(held) == chain.store_sha256:
             return
         where = held.path
         raise NotReached(f"{where}: it reads otherwise than it was written: look at the disk, and run again")

@@ -1,16 +1,22 @@
 """One run of the updater: the site's manifest is taken, the parts that are missing are, and the store becomes the
 manifest's."""
 
+from collections.abc import Sequence
 from dataclasses import dataclass
+from itertools import islice
+from pathlib import Path
 
 from ..engine import Engine
 from ..http import Client
 from ..lock import Locked, locked, locked_file
+from ..manifest import Chain, Manifest
+from ..places import told
 from ..progress import Progress, Silent
 from ..telling import one_line, refused_by_system
 from .config import Config
 from .faults import Fault, NotReached, Refused, SetUp, Stale
-from .held import digest_of_all, length_of, parts_held
+from .folder import StoreFolder
+from .held import Held, digest_of_all, length_of, parts_held
 from .installing import DeviceFile, Place, StoreFile, lock_beside, sweep_drafts
 from .parts import take_parts
 from .state import Accepted, State
@@ -69,26 +75,73 @@ def _run(config: Config, state: State, now: int, client: Client, engine: Engine,
     except Fault as fault:
         return _without(config, state, now, fault)
     manifest = taken.manifest
-    return Outcome(DONE, f"{line} epoch {manifest.epoch} parts {len(manifest.parts)}", _hint(config, taken))
+    parts = f"parts {len(manifest.chains[0].parts)}"
+    places = "" if manifest.places is None else f" places {len(manifest.chains)}"
+    return Outcome(DONE, f"{line} epoch {manifest.epoch} {parts}{places}", _hint(config, taken))
 
 
 def _update(config: Config, state: State, client: Client, engine: Engine, taken: Accepted, progress: Progress) -> str:
     """Makes the store a manifest's: `current` where it was, else `updated`."""
-    manifest = taken.manifest
-    if length_of(manifest) != manifest.store_length:
-        raise Refused("the manifest's store hasn't the length of its parts: tell the publisher")
-    place = _place(config, engine)
-    place.room(manifest)
-    held = place.held()
-    count = parts_held(held, manifest)
-    missing = manifest.parts[count:]
-    files = take_parts(config.site, state.parts, client, engine, missing, progress)
-    if digest_of_all(held, count, files, len(manifest.parts)) != manifest.store_sha256:
-        raise Refused("the manifest's store hasn't the SHA-256 of its parts together: tell the publisher")
-    if missing:
-        place.install(manifest, count, files)
+    for chain in taken.manifest.chains:
+        if length_of(chain) != chain.store_length:
+            raise Refused("the manifest's store hasn't the length of its parts: tell the publisher")
+    _test_kind(config, taken.manifest)
+    update = _update_places if taken.manifest.places is not None else _update_one
+    is_new = update(config, state, client, engine, taken, progress)
     state.install(taken)
-    return "updated" if missing else "current"
+    return "updated" if is_new else "current"
+
+
+def _update_one(
+    config: Config, state: State, client: Client, engine: Engine, taken: Accepted, progress: Progress
+) -> bool:
+    """Makes the store that of the one chain; whether it lacked parts."""
+    (chain,) = taken.manifest.chains
+    place = _place(config, engine)
+    place.room(chain)
+    held = place.held()
+    count = parts_held(held, chain)
+    missing = chain.parts[count:]
+    files = take_parts(config.site, state.parts, client, engine, missing, progress)
+    _test_digest(chain, held, count, files)
+    if missing:
+        place.install(chain, count, files)
+    return bool(missing)
+
+
+def _update_places(
+    config: Config, state: State, client: Client, engine: Engine, taken: Accepted, progress: Progress
+) -> bool:
+    """Makes the stores those of all places, or leaves them; whether one lacked parts."""
+    folder, chains = StoreFolder(engine, config.place, taken.manifest), taken.manifest.chains
+    folder.begin()
+    held = {chain.place: folder.held(chain) for chain in chains}
+    missing = [part for chain in chains for part in chain.parts[held[chain.place][1] :]]
+    files = iter(take_parts(config.site, state.parts, client, engine, missing, progress))
+    brought = {chain.place: list(islice(files, len(chain.parts) - held[chain.place][1])) for chain in chains}
+    for chain in chains:
+        _test_digest(chain, *held[chain.place], brought[chain.place])
+    for chain in chains:
+        folder.put(chain, held[chain.place][0], brought[chain.place])
+    folder.install(taken.text)
+    return bool(missing)
+
+
+def _test_digest(chain: Chain, held: Held | None, count: int, files: Sequence[Path]) -> None:
+    """Tests that the parts make the store that the manifest names."""
+    if digest_of_all(held, count, files, len(chain.parts)) != chain.store_sha256:
+        raise Refused("the manifest's store hasn't the SHA-256 of its parts together: tell the publisher")
+
+
+def _test_kind(config: Config, manifest: Manifest) -> None:
+    """Tests that the manifest's stores can be kept where CONFIG says: those of places in a folder, else one file."""
+    if manifest.places is None:
+        if config.place.is_dir():
+            raise SetUp(f"{config.place} is a folder, and the site has one store: name a file by `store`")
+    elif config.capacity is not None:
+        raise SetUp(f"{config.path}: the site has {told(manifest.places)}: write `store` in place of `device`")
+    elif config.place.exists() and not config.place.is_dir():
+        raise SetUp(f"{config.place} is a file, and the site has {told(manifest.places)}: name another `store`")
 
 
 def _place(config: Config, engine: Engine) -> Place:

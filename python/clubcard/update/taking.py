@@ -8,6 +8,7 @@ from pathlib import Path
 from .. import minisign
 from ..http import MIB, Client, FetchError, Response
 from ..manifest import Manifest, ManifestError
+from ..places import told
 from ..times import nearest_iso
 from .config import Config
 from .faults import NotReached, Refused, SetUp, Stale
@@ -123,6 +124,10 @@ def _test_order(taken: Accepted, known: Accepted, file: Path) -> None:
     if chain != former:
         remedy = f"compare `site` in CONFIG; to move to that chain on purpose, remove {file} and run again"
         raise Refused(f"the site's manifest is of the chain {chain!r}, and this client follows {former!r}: {remedy}")
+    if taken.manifest.places != known.manifest.places:
+        new, old = told(taken.manifest.places), told(known.manifest.places)
+        remedy = f"tell the publisher; to take them on purpose, remove {file} and the stores, and run again"
+        raise Refused(f"the site's manifest has {new}, and this client's stores were begun with {old}: {remedy}")
     named = "generation {} epoch {}"
     new, old = named.format(*taken.version), named.format(*known.version)
     remedy = "it may be replayed: tell the publisher; docs/CLIENTS.md says what else it may be"
