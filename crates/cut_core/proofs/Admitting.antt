@@ -24,7 +24,7 @@ use Rattle.piece_core.specs.Cuts.{keeps_entry}
 use Rattle.cut_core.specs.Cutting.{cut_job, cut_in, IsCut}
 use Rattle.cut_core.specs.Courses.{Course, left, cut_course}
 use Rattle.cut_core.proofs.Steps.{accepted_cut}
-use Rattle.cut_core.proofs.Releases.{past_cut}
+use Rattle.cut_core.proofs.Releases.{Ascend, past_cut}
 use Rattle.cut_core.proofs.Courses.{facts_cut, course_beside, left_ascends}
 
 module _ (cut : Cut) where
@@ -78,14 +78,14 @@ module _ (cut : Cut) where
 
 -- ---- no more than the whole one has
 
-few_kept : {A : Type 0} (p : A → Bool) (xs : List A) → length (filter p xs) ≤ length xs
+pub few_kept : {A : Type 0} (p : A → Bool) (xs : List A) → length (filter p xs) ≤ length xs
 few_kept p xs = omega (arith, length-filter_both p (λ a. not (p a)) (λ a. refl) xs)
 
 module _ (cut : Cut) where
   abbrev taken_crl : CrlMeaning → Bool
   taken_crl c = cut.takes c.issuer
 
-  few_serials : (crls : List CrlMeaning) → kept_in (filter taken_crl crls) ≤ kept_in crls
+  pub few_serials : (crls : List CrlMeaning) → kept_in (filter taken_crl crls) ≤ kept_in crls
   few_serials crls = omega (arith, sum_by-filter_both taken_crl (λ c. not (taken_crl c)) (λ c. refl) (λ c. kept c.outcome) crls)
 
   limits_cut : (limits : Limits) (job : JobFields) → IsWithinLimits limits job → IsWithinLimits limits (cut_job cut job)
@@ -96,16 +96,11 @@ module _ (cut : Cut) where
     entries = omega (arith, few_kept (keeps_entry cut) job.entries, w.entries);
   }
 
-  pub admissible_whole : (c : Course) (j : JobIn) → IsAdmissible (left c) j
-      → HaveBlocks j.format (groups_of (left (cut_course cut c)) (facts_in (cut_in cut j)))
-      → IsAdmissible (left (cut_course cut c)) (cut_in cut j)
-  admissible_whole c j a blocks =
-      let rs : List Release = left c in
-      let qs : List Release = left (cut_course cut c) in
-      let z : AllZip (IsCut cut) rs qs = course_beside cut c in
+  pub admissible_beside : (rs qs : List Release) (j : JobIn) → AllZip (IsCut cut) rs qs → Ascend rs → IsAdmissible rs j
+      → HaveBlocks j.format (groups_of qs (facts_in (cut_in cut j))) → IsAdmissible qs (cut_in cut j)
+  admissible_beside rs qs j z up a blocks =
       let known : accepted_with (past_of qs) (facts_in (cut_in cut j)) ≡ filter (is_kept cut) (accepted_with (past_of rs) (facts_in j)) =
-      ap (accepted_with (past_of qs)) (facts_cut cut j)
-      ∙ accepted_cut cut (facts_in j) (past_of rs) (past_of qs) (past_cut cut rs qs z (left_ascends cut c)) in
+      ap (accepted_with (past_of qs)) (facts_cut cut j) ∙ accepted_cut cut (facts_in j) (past_of rs) (past_of qs) (past_cut cut rs qs z up) in
       let few : length (accepted_with (past_of qs) (facts_in (cut_in cut j))) ≤ PUBLISHED.identities =
       omega (
         arith,
@@ -114,3 +109,8 @@ module _ (cut : Cut) where
         a.few_identities,
       ) in
       admissible_cut cut rs qs j z a.fits a.crls a.goes_on a.few_parts (limits_cut PUBLISHED j.job a.limits) few blocks
+
+  pub admissible_whole : (c : Course) (j : JobIn) → IsAdmissible (left c) j
+      → HaveBlocks j.format (groups_of (left (cut_course cut c)) (facts_in (cut_in cut j)))
+      → IsAdmissible (left (cut_course cut c)) (cut_in cut j)
+  admissible_whole c j a blocks = admissible_beside (left c) (left (cut_course cut c)) j (course_beside cut c) (left_ascends cut c) a blocks

@@ -1,15 +1,17 @@
 -- What is cut is cut again.
 use Rattle.std.specs.List.{filter}
-use Rattle.std.proofs.Common.{◌≡◌, List, Bool, true, false, ◌&&◌, Option, Some, None, refl, sym, ap, ◌∙◌}
+use Rattle.std.proofs.Common.{◌≡◌, List, [], ◌∷◌, map, Bool, true, false, ◌&&◌, Option, Some, None, refl, sym, ap, ◌∙◌}
 use Rattle.std.proofs.lemmas.Bool.{and_parts}
 use Rattle.std.proofs.lemmas.List.Elements.{filter_agree}
 use Rattle.ident_core.specs.declared.identity.Identity.{Identity}
 use Rattle.job_core.specs.JobFields.{CrlMeaning, JobFields}
 use Rattle.universe_core.specs.Jobs.{Entry}
+use Rattle.universe_core.specs.Formats.{JobIn}
 use Rattle.universe_core.specs.History.{Release}
 use Rattle.place_core.specs.Cuts.{Cut, is_kept, both}
 use Rattle.piece_core.specs.Cuts.{keeps_entry}
-use Rattle.cut_core.specs.Cutting.{cut_job, IsCut}
+use Rattle.cut_core.specs.Cutting.{cut_job, cut_in, IsCut}
+use Rattle.cut_core.specs.Courses.{Course, from_jobs, from_base, cut_course}
 use Rattle.cut_core.proofs.Filters.{filter_both}
 
 regrouped : (p q v w : Bool) → ((p && v) && (q && w)) ≡ ((p && q) && (v && w))
@@ -58,3 +60,15 @@ module _ (a b : Cut) where
     accepted = second.accepted ∙ ap (filter (is_kept b)) first.accepted ∙ ids_again r.accepted;
     revoked = second.revoked ∙ ap (filter (is_kept b)) first.revoked ∙ ids_again r.revoked;
   }
+
+  jobs_again : (jobs : List JobIn) → map (cut_in b) (map (cut_in a) jobs) ≡ map (cut_in (both a b)) jobs
+  jobs_again [] = refl
+  jobs_again (j ∷ jobs) =
+      ap (λ (job : JobFields). record j { job = job } ∷ map (cut_in b) (map (cut_in a) jobs)) (job_again j.job)
+      ∙ ap (λ (js : List JobIn). cut_in (both a b) j ∷ js) (jobs_again jobs)
+
+  pub course_again : (c : Course) → cut_course b (cut_course a c) ≡ cut_course (both a b) c
+  course_again (from_jobs jobs) = ap from_jobs (jobs_again jobs)
+  course_again (from_base c moment without jobs) =
+      ap (λ (d : Course). from_base d moment without (map (cut_in b) (map (cut_in a) jobs))) (course_again c)
+      ∙ ap (from_base (cut_course (both a b) c) moment without) (jobs_again jobs)

@@ -106,12 +106,12 @@ module _ (cut : Cut) where
 
   -- ---- histories with parts
 
-  next_beside : (rs qs : List Release) (j : JobIn) (s : SealedFields) → AllZip (IsCut cut) rs qs → Ascend rs
-      → AllZip (IsCut cut) (rs ++ released (past_of rs) (facts_in j) zero_key ∷ []) (qs ++ release_of qs (cut_in cut j) s ∷ [])
-  next_beside rs qs j s z up =
-      subst (λ (job : JobFacts). AllZip (IsCut cut) (rs ++ released (past_of rs) (facts_in j) zero_key ∷ [])
-      (qs ++ released (past_of qs) job s.trailer ∷ [])) (sym (facts_cut j))
-      (more_beside cut rs qs (facts_in j) zero_key s.trailer z up)
+  pub next_beside : (rs qs : List Release) (j : JobIn) (trailer other : List ℕ) → AllZip (IsCut cut) rs qs → Ascend rs
+      → AllZip (IsCut cut) (rs ++ released (past_of rs) (facts_in j) trailer ∷ []) (qs ++ released (past_of qs) (facts_in (cut_in cut j)) other ∷ [])
+  next_beside rs qs j trailer other z up =
+      subst (λ (job : JobFacts). AllZip (IsCut cut) (rs ++ released (past_of rs) (facts_in j) trailer ∷ [])
+      (qs ++ released (past_of qs) job other ∷ [])) (sym (facts_cut j))
+      (more_beside cut rs qs (facts_in j) trailer other z up)
 
   pub after_beside : (rs qs : List Release) (jobs : List JobIn) (parts : List SealedFields) → AllZip (IsCut cut) rs qs → Ascend rs
       → AreAdmissible qs (map (cut_in cut) jobs) parts
@@ -122,7 +122,7 @@ module _ (cut : Cut) where
   after_beside rs qs (j ∷ jobs) [] z up h = absurd h
   after_beside rs qs (j ∷ jobs) (s ∷ parts) z up h =
       after_beside (rs ++ released (past_of rs) (facts_in j) zero_key ∷ []) (qs ++ release_of qs (cut_in cut j) s ∷ []) jobs parts
-      (next_beside rs qs j s z up) (Ascend-push rs (facts_in j) zero_key up) h.2
+      (next_beside rs qs j zero_key s.trailer z up) (Ascend-push rs (facts_in j) zero_key up) h.2
 
   members_beside : (rs qs : List Release) (jobs js : List JobIn) (parts : List SealedFields) → AllZip (IsCut cut) rs qs → Ascend rs
       → js ≡ map (cut_in cut) jobs

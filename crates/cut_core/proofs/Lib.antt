@@ -11,3 +11,5 @@ pub mod Audits
 pub mod Adding
 pub mod ByPlaces
 pub mod Records
+pub mod Parted
+pub mod Reading

@@ -17,7 +17,7 @@ use Rattle.cut_core.specs.Cutting.{cut_job}
 use Rattle.cut_core.specs.Texts.{IsPiece, IsMerged}
 use Rattle.piece_core.proofs.Keeping.{map_filter}
 
-abbrev entries_of : List JobContents → List EntryText
+abbrev pub entries_of : List JobContents → List EntryText
 entries_of jobs = flat_map (λ (j : JobContents). j.entries) jobs
 
 module _ (cut : Cut) where

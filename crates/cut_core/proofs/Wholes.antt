@@ -57,6 +57,26 @@ rest_beside cut (r ∷ rs) [] z = absurd z
 rest_beside cut (r ∷ rs) (q ∷ qs) z =
     (release_again everything cut r q (release_cut cut q) z.0 (release_is_cut cut q), rest_beside cut rs qs z.1)
 
+-- what is cut of a release is cut of the same with another part
+release_whole : (cut : Cut) (w r q : Release) → IsCut everything w r → IsCut cut w q → IsCut cut r q
+release_whole cut w r q e c = record {
+  epoch = c.epoch ∙ sym e.epoch;
+  ranges = c.ranges ∙ sym e.ranges;
+  issuers = c.issuers ∙ ap (filter cut.takes) (sym (e.issuers ∙ filter_all w.issuers));
+  lists = λ x k. c.lists x k ∙ sym (e.lists x refl);
+  shown = c.shown ∙ ap (filter (λ (e : Entry). is_kept cut e.id)) (sym (e.shown ∙ filter_all w.shown));
+  accepted = c.accepted ∙ ap (filter (is_kept cut)) (sym (e.accepted ∙ filter_all w.accepted));
+  revoked = c.revoked ∙ ap (filter (is_kept cut)) (sym (e.revoked ∙ filter_all w.revoked));
+}
+
+releases_whole : (cut : Cut) (ws rs qs : List Release) → AllZip (IsCut everything) ws rs → AllZip (IsCut cut) ws qs → AllZip (IsCut cut) rs qs
+releases_whole cut [] [] [] e c = tt
+releases_whole cut [] [] (q ∷ qs) e c = absurd c
+releases_whole cut [] (r ∷ rs) qs e c = absurd e
+releases_whole cut (w ∷ ws) [] qs e c = absurd e
+releases_whole cut (w ∷ ws) (r ∷ rs) [] e c = absurd c
+releases_whole cut (w ∷ ws) (r ∷ rs) (q ∷ qs) e c = (release_whole cut w r q e.0 c.0, releases_whole cut ws rs qs e.1 c.1)
+
 module _ (h : History) (parts : List SealedFields) (is : IsHistory h parts) where
   beside : AllZip (IsCut everything) (left (course_of h)) (releases_of h parts)
   beside = history_beside everything (course_of h) h parts (sym (course_whole (course_of h))) is
@@ -66,6 +86,13 @@ module _ (h : History) (parts : List SealedFields) (is : IsHistory h parts) wher
 
   pub whole_sightings : (x : Identity) → sightings x (seen (releases_of h parts)) ≡ sightings x (seen (left (course_of h)))
   whole_sightings x = sightings_beside everything x refl (left (course_of h)) (releases_of h parts) beside
+
+  -- a cut history beside the whole one
+  pub cut_beside : (cut : Cut) (kept : History) (others : List SealedFields) → IsHistory kept others → course_of kept ≡ cut_course cut (course_of h)
+      → AllZip (IsCut cut) (releases_of h parts) (releases_of kept others)
+  cut_beside cut kept others other e =
+      releases_whole cut (left (course_of h)) (releases_of h parts) (releases_of kept others) beside
+      (history_beside cut (course_of h) kept others e other)
 
 -- ---- a chain that is begun anew by what is kept of a history, beside the whole, begun anew
 

@@ -1,11 +1,12 @@
 -- Histories as their jobs alone tell them: with no parts, and with no bound on how much their jobs accept. A history that
 -- is cut into places may be one of these and no more, since all of it would pass the limits.
-use Rattle.std.specs.Prelude.{ℕ, List, [], ◌∷◌, map}
+use Rattle.std.specs.Prelude.{ℕ, List, [], ◌∷◌, ◌++◌, map}
 use Rattle.ident_core.specs.HeadFields.{zero_key}
 use Rattle.universe_core.specs.Formats.{JobIn, facts_in}
-use Rattle.universe_core.specs.History.{Release, releases}
+use Rattle.universe_core.specs.History.{Release, past_of, released, releases}
 use Rattle.history_core.specs.Bases.{releases_cut, base_at}
-use Rattle.publication_core.specs.Histories.{History, of_jobs, rebased}
+use Rattle.publication_core.specs.Building.{HaveBlocks}
+use Rattle.publication_core.specs.Histories.{groups_of, History, of_jobs, rebased}
 use Rattle.place_core.specs.Cuts.{Cut}
 use Rattle.cut_core.specs.Cutting.{cut_in}
 
@@ -33,3 +34,10 @@ cut_course cut (from_base c moment kept jobs) = from_base (cut_course cut c) mom
 abbrev pub course_of : History → Course
 course_of (of_jobs jobs) = from_jobs jobs
 course_of (rebased h old moment kept jobs) = from_base (course_of h) moment kept jobs
+
+-- each group of each of the jobs has a block, behind these releases and the jobs before it
+abbrev pub HaveBlocksBehind : List Release → List JobIn → Type 0
+HaveBlocksBehind rs [] = Unit {0}
+HaveBlocksBehind rs (j ∷ jobs) =
+    HaveBlocks j.format (groups_of rs (facts_in j))
+    × HaveBlocksBehind (rs ++ released (past_of rs) (facts_in j) zero_key ∷ []) jobs

@@ -1,6 +1,6 @@
 //! What is left of cut jobs, whichever identities are kept.
 
-ghost use Rattle.std.specs.Prelude.{◌≡◌, ◌<◌, ◌≤◌, [], ℕ, List, Some, All, IfSome, IsOk};
+ghost use Rattle.std.specs.Prelude.{◌≡◌, ◌<◌, ◌≤◌, [], ◌∷◌, ◌++◌, ℕ, List, Some, All, IfSome, IsOk};
 ghost use Rattle.std.specs.Prelude.{true, false, map, length};
 ghost use Rattle.std.specs.List.{AllZip};
 ghost use Rattle.ident_core.specs.declared.bounds.TheConstants.{MAX_PARTS};
@@ -19,18 +19,19 @@ ghost use Rattle.universe_core.specs.Ledgers.{last};
 ghost use Rattle.history_core.specs.Bases.{releases_cut, base_at};
 ghost use Rattle.history_core.specs.Truth.{truth};
 ghost use Rattle.publication_core.specs.Building.{HaveBlocks};
-ghost use Rattle.publication_core.specs.Histories.{History, rebased, IsHistory, releases_of};
+ghost use Rattle.publication_core.specs.Histories.{History, of_jobs, rebased, with_job, IsHistory, releases_of};
 ghost use Rattle.publication_core.specs.Histories.{newest_of, groups_of, GoesOn, IsAdmissible};
 ghost use Rattle.place_core.specs.Cuts.{Cut, is_kept, both, everything};
 ghost use Rattle.cut_core.specs.Cutting.{cut_job, cut_in, cut_facts, IsCut};
-ghost use Rattle.cut_core.specs.Courses.{Course, from_base, left, cut_course, course_of};
+ghost use Rattle.cut_core.specs.Courses.{Course, from_base, left, cut_course, course_of, HaveBlocksBehind};
 
 /// What cut jobs leave is what the whole jobs leave, without what isn't kept, whichever that is, and however many
 /// identities the whole jobs accept: of jobs from the first on (`jobs`), of a course (`courses`), and of a history
 /// with parts that has a course's jobs, cut (`histories`). The base of what is cut is the base of the whole, cut
 /// (`bases`), whichever of it the base keeps. A chain that isn't cut is begun anew, cut, by the base of what is kept
 /// (`splits`); so what it leaves with the cut jobs is what the whole leaves, begun anew with all of it, and gone on with
-/// the whole jobs (`begun`). What is cut is cut again (`again`), as its jobs are (`again_jobs`).
+/// the whole jobs (`begun`). What is cut is cut again (`again`), as its jobs and courses are (`again_jobs`,
+/// `again_courses`).
 pub fn cuts_leave_what_is_kept()
     ensures jobs { (cut : Cut) (trailer other : List Release → JobFacts → List ℕ) (jobs : List JobFacts)
         → AllZip (IsCut cut) (releases trailer [] jobs) (releases other [] (map (cut_facts cut) jobs)) }
@@ -49,6 +50,7 @@ pub fn cuts_leave_what_is_kept()
         (releases_of (rebased whole old moment cut (map (cut_in cut) jobs)) parts) }
     ensures again { (a b : Cut) (r q s : Release) → IsCut a r q → IsCut b q s → IsCut (both a b) r s }
     ensures again_jobs { (a b : Cut) (job : JobFields) → cut_job b (cut_job a job) ≡ cut_job (both a b) job }
+    ensures again_courses { (a b : Cut) (c : Course) → cut_course b (cut_course a c) ≡ cut_course (both a b) c }
 {}
 
 /// Releases that are cut know of a kept identity what the whole ones do: whether it is accepted, its birth, its
@@ -97,4 +99,20 @@ pub fn cut_jobs_follow()
         → IsWithinLimits PUBLISHED (cut_job cut j.job)
         → length (accepted_with (past_of qs) (facts_in (cut_in cut j))) ≤ PUBLISHED.identities
         → HaveBlocks j.format (groups_of qs (facts_in (cut_in cut j))) → IsAdmissible qs (cut_in cut j) }
+{}
+
+/// Cut jobs have parts where the whole ones do, if each of their groups has a block. The jobs of a history, cut, are a
+/// history with some parts (`jobs`). Behind a cut history with parts, which may begin with a base, a job that may
+/// follow the whole one has a part, cut (`next`), and the two are cut alike with it (`course`).
+pub fn cut_jobs_have_parts()
+    ensures jobs { (cut : Cut) (jobs : List JobIn) (parts : List SealedFields) → IsHistory (of_jobs jobs) parts
+        → HaveBlocksBehind [] (map (cut_in cut) jobs)
+        → (kept : List SealedFields) × IsHistory (of_jobs (map (cut_in cut) jobs)) kept }
+    ensures next { (cut : Cut) (whole kept : History) (old parts : List SealedFields) (j : JobIn)
+        → IsHistory whole old → IsHistory kept parts → course_of kept ≡ cut_course cut (course_of whole)
+        → IsAdmissible (releases_of whole old) j
+        → HaveBlocks j.format (groups_of (releases_of kept parts) (facts_in (cut_in cut j)))
+        → (s : SealedFields) × IsHistory (with_job kept (cut_in cut j)) (parts ++ s ∷ []) }
+    ensures course { (cut : Cut) (whole kept : History) (j : JobIn) → course_of kept ≡ cut_course cut (course_of whole)
+        → course_of (with_job kept (cut_in cut j)) ≡ cut_course cut (course_of (with_job whole j)) }
 {}

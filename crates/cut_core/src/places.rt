@@ -6,7 +6,7 @@ ghost use Rattle.ident_core.specs.declared.range.Sighting.{Sighting};
 ghost use Rattle.ident_core.specs.Among.{Among};
 ghost use Rattle.place_core.specs.declared.place.By.{By};
 ghost use Rattle.place_core.specs.Places.{issuer_place, place_in};
-ghost use Rattle.place_core.specs.Cuts.{everything, at_place};
+ghost use Rattle.place_core.specs.Cuts.{is_kept, everything, at_place};
 ghost use Rattle.card_core.specs.PartFields.{PartFields};
 ghost use Rattle.card_core.specs.Verdict.{verdict};
 ghost use Rattle.part_text.specs.SealedFields.{SealedFields};
@@ -23,8 +23,8 @@ ghost use Rattle.cut_core.specs.InPlaces.{job_at, in_at, course_at, AddUp};
 
 /// The jobs of the places have the entries of the whole job, each in the one job of its place (`below`), in their
 /// order (`parted`). By identities each has all its CRLs (`crls`), by issuers each CRL is in the one job of its
-/// issuer's place (`issuer_crls`). Where the count is a multiple of another, a place lies in one place of that, so
-/// that places are cut again (`finer`).
+/// issuer's place (`issuer_crls`). A place keeps the identities that have it (`kept`). Where the count is a multiple of
+/// another, a place lies in one place of that, so that places are cut again (`finer`).
 pub fn entries_have_one_place()
     ensures below { (by : By) (count : ℕ) (o : Option Entry) → 1 ≤ count → entry_place by count o < count }
     ensures parted { (by : By) (count p : ℕ) (job : JobFields)
@@ -32,6 +32,8 @@ pub fn entries_have_one_place()
     ensures crls { (count p : ℕ) (job : JobFields) → (job_at By.Identity count p job).crls ≡ job.crls }
     ensures issuer_crls { (count p : ℕ) (job : JobFields)
         → (job_at By.Issuer count p job).crls ≡ filter (λ c. issuer_place c.issuer count == p) job.crls }
+    ensures kept { (by : By) (count p : ℕ) (x : Identity)
+        → is_kept (at_place by count p) x ≡ (place_in by count x == p) }
     ensures finer { (by : By) (count times : ℕ) (x : Identity) → 1 ≤ count
         → place_in by count x ≡ place_in by (count * times) x % count }
 {}

@@ -1,5 +1,5 @@
 use Rattle.std.proofs.Common.{[]}
-use Rattle.cut_core.proofs.Again.{release_again, job_again}
+use Rattle.cut_core.proofs.Again.{release_again, job_again, course_again}
 use Rattle.cut_core.proofs.Bases.{base_beside, kept_base}
 use Rattle.cut_core.proofs.Courses.{course_beside, history_beside}
 use Rattle.cut_core.proofs.Releases.{releases_beside}
@@ -16,4 +16,5 @@ returns c = record {
   begun = split_beside;
   again = release_again;
   again_jobs = job_again;
+  again_courses = course_again;
 }

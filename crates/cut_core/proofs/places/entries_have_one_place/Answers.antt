@@ -1,4 +1,5 @@
 use Rattle.std.proofs.Common.{refl}
+use Rattle.piece_core.proofs.Places.{kept_at}
 use Rattle.cut_core.proofs.ByPlaces.{entry_below, parted, same_crls, place_again}
 use Rattle.cut_core.proofs.places.entries_have_one_place.Goals as goal
 
@@ -8,5 +9,6 @@ returns c = record {
   parted = λ by count p job. parted by count p job.entries;
   crls = same_crls;
   issuer_crls = λ count p job. refl;
+  kept = kept_at;
   finer = place_again;
 }

@@ -1,0 +1,120 @@
+-- Cut jobs have parts, where each of their groups has a block.
+use Rattle.std.specs.List.{AllZip}
+use Rattle.std.proofs.Common.{◌≡◌, ℕ, List, [], ◌∷◌, ◌++◌, map, refl, sym, ap, ◌∙◌, subst}
+use Rattle.std.proofs.lemmas.List.{map-append}
+use Rattle.sha2.specs.Sha256.{sha256}
+use Rattle.ident_core.specs.declared.identity.Identity.{Identity}
+use Rattle.ident_core.specs.HeadFields.{zero_key}
+use Rattle.ident_core.specs.Sets.{has}
+use Rattle.card_core.specs.PartFields.{PartFields}
+use Rattle.part_text.specs.PartText.{unsealed_text}
+use Rattle.part_text.specs.SealedFields.{SealedFields}
+use Rattle.universe_core.specs.Formats.{JobIn, facts_in}
+use Rattle.universe_core.specs.Groups.{GroupFields, members_of, groups}
+use Rattle.universe_core.specs.History.{Release, past_of, released}
+use Rattle.universe_core.specs.Ledgers.{part_from}
+use Rattle.universe_core.specs.Step.{head_after}
+use Rattle.publication_core.specs.Building.{HaveBlocks}
+use Rattle.publication_core.specs.Histories.{groups_of, IsAdmissible, IsPartOf, release_of, AreAdmissible, History, of_jobs, rebased, with_job}
+use Rattle.publication_core.specs.Histories.{IsHistory, releases_of}
+use Rattle.publication_core.proofs.Histories.{history_sound, with_job_is}
+use Rattle.place_core.specs.Cuts.{Cut}
+use Rattle.cut_core.specs.Cutting.{cut_in, cut_facts, IsCut}
+use Rattle.cut_core.specs.Courses.{Course, from_jobs, from_base, cut_course, course_of, HaveBlocksBehind}
+use Rattle.cut_core.proofs.Admitting.{admissible_beside}
+use Rattle.cut_core.proofs.Courses.{facts_cut, next_beside}
+use Rattle.cut_core.proofs.Releases.{Ascend, Ascend-push, released_beside}
+use Rattle.cut_core.proofs.Wholes.{cut_beside}
+
+-- a job whose groups have blocks has a part
+part_there : (rs : List Release) (j : JobIn) → HaveBlocks j.format (groups_of rs (facts_in j)) → (s : SealedFields) × IsPartOf rs j s
+part_there rs j (blocks, are) =
+    let made : PartFields = record { head = head_after (map part_from rs) (facts_in j); blocks = blocks } in
+    (record { part = made; trailer = sha256 (unsealed_text made) }, record { head_is = refl; blocks = are; trailer = refl })
+
+-- ---- what is kept has the same groups, whatever the trailers before
+
+abbrev grouped : List Identity → List Identity → List (List ℕ) → List GroupFields
+grouped accepted revoked issuers =
+    map (λ issuer. record {
+      issuer = issuer;
+      universe = members_of issuer accepted;
+      revoked = map (has revoked) (members_of issuer accepted);
+    }) issuers
+
+groups_are : (r : Release) → groups r ≡ grouped r.accepted r.revoked r.issuers
+unfolding groups
+groups_are r = refl
+
+module _ (cut : Cut) where
+  groups_cut : (r a b : Release) → IsCut cut r a → IsCut cut r b → groups a ≡ groups b
+  groups_cut r a b x y =
+      groups_are a
+      ∙ ap (λ (xs : List Identity). grouped xs a.revoked a.issuers) (x.accepted ∙ sym y.accepted)
+      ∙ ap (λ (xs : List Identity). grouped b.accepted xs a.issuers) (x.revoked ∙ sym y.revoked)
+      ∙ ap (grouped b.accepted b.revoked) (x.issuers ∙ sym y.issuers)
+      ∙ sym (groups_are b)
+
+  groups_same : (rs qs ls : List Release) (j : JobIn) → AllZip (IsCut cut) rs qs → AllZip (IsCut cut) rs ls → Ascend rs
+      → groups_of ls (facts_in (cut_in cut j)) ≡ groups_of qs (facts_in (cut_in cut j))
+  groups_same rs qs ls j z y up =
+      ap (groups_of ls) (facts_cut cut j)
+      ∙ groups_cut (released (past_of rs) (facts_in j) []) (released (past_of ls) (cut_facts cut (facts_in j)) [])
+      (released (past_of qs) (cut_facts cut (facts_in j)) [])
+      (released_beside cut rs ls (facts_in j) [] [] y up) (released_beside cut rs qs (facts_in j) [] [] z up)
+      ∙ ap (groups_of qs) (sym (facts_cut cut j))
+
+  -- ---- one job after the other
+
+  parted_behind : (rs qs ls : List Release) (jobs : List JobIn) (parts : List SealedFields) → AllZip (IsCut cut) rs qs → AllZip (IsCut cut) rs ls
+      → Ascend rs → AreAdmissible rs jobs parts → HaveBlocksBehind ls (map (cut_in cut) jobs)
+      → (kept : List SealedFields) × AreAdmissible qs (map (cut_in cut) jobs) kept
+  parted_behind rs qs ls [] [] z y up h b = ([], tt)
+  parted_behind rs qs ls [] (s ∷ parts) z y up h b = absurd h
+  parted_behind rs qs ls (j ∷ jobs) [] z y up h b = absurd h
+  parted_behind rs qs ls (j ∷ jobs) (s ∷ parts) z y up h b =
+      let have : HaveBlocks j.format (groups_of qs (facts_in (cut_in cut j))) = subst (HaveBlocks j.format) (groups_same rs qs ls j z y up) b.0 in
+      let p = part_there qs (cut_in cut j) have in
+      let on = parted_behind (rs ++ release_of rs j s ∷ []) (qs ++ release_of qs (cut_in cut j) p.0 ∷ [])
+      (ls ++ released (past_of ls) (facts_in (cut_in cut j)) zero_key ∷ []) jobs parts
+      (next_beside cut rs qs j s.trailer p.0.trailer z up) (next_beside cut rs ls j s.trailer zero_key y up)
+      (Ascend-push rs (facts_in j) s.trailer up) h.2 b.1 in
+      (p.0 ∷ on.0, (admissible_beside cut rs qs j z up h.0 have, p.1, on.1))
+
+  pub jobs_parted : (jobs : List JobIn) (parts : List SealedFields) → IsHistory (of_jobs jobs) parts → HaveBlocksBehind [] (map (cut_in cut) jobs)
+      → (kept : List SealedFields) × IsHistory (of_jobs (map (cut_in cut) jobs)) kept
+  jobs_parted jobs parts is blocks = parted_behind [] [] [] jobs parts tt tt (λ r a. absurd a) is blocks
+
+  -- ---- one job more, behind jobs or a base
+
+  abbrev with_more : Course → JobIn → Course
+  with_more (from_jobs jobs) j = from_jobs (jobs ++ j ∷ [])
+  with_more (from_base c moment without jobs) j = from_base c moment without (jobs ++ j ∷ [])
+
+  course_more : (h : History) (j : JobIn) → course_of (with_job h j) ≡ with_more (course_of h) j
+  course_more (of_jobs jobs) j = refl
+  course_more (rebased h old moment without jobs) j = refl
+
+  cut_more : (c : Course) (j : JobIn) → cut_course cut (with_more c j) ≡ with_more (cut_course cut c) (cut_in cut j)
+  cut_more (from_jobs jobs) j = ap from_jobs (map-append (cut_in cut) jobs (j ∷ []))
+  cut_more (from_base c moment without jobs) j = ap (from_base (cut_course cut c) moment without) (map-append (cut_in cut) jobs (j ∷ []))
+
+  pub next_course : (whole kept : History) (j : JobIn) → course_of kept ≡ cut_course cut (course_of whole)
+      → course_of (with_job kept (cut_in cut j)) ≡ cut_course cut (course_of (with_job whole j))
+  next_course whole kept j same =
+      course_more kept (cut_in cut j) ∙ ap (λ (c : Course). with_more c (cut_in cut j)) same ∙ sym (cut_more (course_of whole) j)
+      ∙ ap (cut_course cut) (sym (course_more whole j))
+
+  pub next_parted : (whole kept : History) (old parts : List SealedFields) (j : JobIn) → IsHistory whole old → IsHistory kept parts
+      → course_of kept ≡ cut_course cut (course_of whole) → IsAdmissible (releases_of whole old) j
+      → HaveBlocks j.format (groups_of (releases_of kept parts) (facts_in (cut_in cut j)))
+      → (s : SealedFields) × IsHistory (with_job kept (cut_in cut j)) (parts ++ s ∷ [])
+  next_parted whole kept old parts j before is same a have =
+      let rs : List Release = releases_of whole old in
+      let qs : List Release = releases_of kept parts in
+      let sound = history_sound whole old before in
+      let p = part_there qs (cut_in cut j) have in (
+        p.0,
+        with_job_is kept parts (cut_in cut j) p.0 is
+            (admissible_beside cut rs qs j (cut_beside whole old before cut kept parts is same) (λ r b. (sound.formed r b).accepted_ascend) a have) p.1,
+      )
