@@ -13,23 +13,23 @@ const MAX_NAME: usize = 4096;
 
 /// A file that stays open under its name: it is opened once for all that is read from it, or added to it.
 #[derive(Drop)]
-struct Held<F> {
+struct NamedFile<F> {
     name: [u8; MAX_NAME],
     len: usize,
     file: F,
 }
 
-impl<F: Drop> Held<F> {
+impl<F: Drop> NamedFile<F> {
     /// The file of this name, unless the name is too long to be kept.
-    fn new(name: &str, file: F) -> Option<Held<F>> {
+    fn new(name: &str, file: F) -> Option<NamedFile<F>> {
         let bytes = name.as_bytes();
-        let mut held = [0u8; MAX_NAME];
+        let mut kept = [0u8; MAX_NAME];
         if bytes.len() > MAX_NAME {
             return None;
         }
-        held[..bytes.len()].copy_from_slice(bytes);
-        Some(Held {
-            name: held,
+        kept[..bytes.len()].copy_from_slice(bytes);
+        Some(NamedFile {
+            name: kept,
             len: bytes.len(),
             file,
         })
@@ -46,9 +46,9 @@ impl<F: Drop> Held<F> {
 #[derive(Drop)]
 pub struct FileDepot<'a, R: Files> {
     rt: &'a R,
-    read: Option<Held<R::File>>,
+    read: Option<NamedFile<R::File>>,
     ahead: Ahead,
-    begun: Option<Held<R::File>>,
+    begun: Option<NamedFile<R::File>>,
     read_faults: u64,
     write_faults: u64,
 }
@@ -105,9 +105,9 @@ impl<'a, R: Files> FileDepot<'a, R> {
         ensures same_reads { self.new.read_faults ≡ self.old.read_faults }
         ensures same_writes { self.new.write_faults ≡ self.old.write_faults }
     {
-        if let Some(held) = &mut self.read {
-            if held.is_named(name) {
-                return read_through(&mut self.ahead, &mut held.file, at, buf);
+        if let Some(read) = &mut self.read {
+            if read.is_named(name) {
+                return read_through(&mut self.ahead, &mut read.file, at, buf);
             }
         }
         self.ahead.forget();
@@ -115,7 +115,7 @@ impl<'a, R: Files> FileDepot<'a, R> {
             return Err(Failed);
         };
         let read = read_through(&mut self.ahead, &mut file, at, buf);
-        self.read = Held::new(name, file);
+        self.read = NamedFile::new(name, file);
         read
     }
 
@@ -137,7 +137,7 @@ impl<'a, R: Files> FileDepot<'a, R> {
         let Ok(file) = fs::create(self.rt, name) else {
             return Err(Failed);
         };
-        self.begun = Held::new(name, file);
+        self.begun = NamedFile::new(name, file);
         Ok(())
     }
 
