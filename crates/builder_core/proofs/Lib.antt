@@ -7,7 +7,6 @@ pub mod Faults
 pub mod OutcomesInPlace
 pub mod OutcomesOnce
 pub mod ShardMembers
-pub mod ShareLists
 pub mod FirstRefused
 pub mod Admitted
 pub mod Existing

@@ -2,6 +2,5 @@ pub mod Building
 pub mod Cutting
 pub mod Tasks
 pub mod Outcomes
-pub mod Shares
 pub mod Laws
 pub mod Drawing

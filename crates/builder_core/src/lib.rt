@@ -14,7 +14,6 @@ mod laws;
 mod members;
 mod outcome;
 mod outcomes;
-mod shares;
 mod task;
 mod tasks;
 

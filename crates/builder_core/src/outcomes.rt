@@ -10,10 +10,9 @@ ghost use Rattle.builder_core.specs.Outcomes.{AreOutcomes, IsOutcome, IsSettled}
 
 use crate::built::Built;
 use crate::outcome::outcome_of;
-use crate::shares::share_map;
 use crate::task::Task;
 use crate::{BuildFault, Gate};
-use claim_core::{Work, claim_map};
+use claim_core::{Work, claim_map, share_map};
 use equation_core::EquationHash;
 use octets_core::NoMemory;
 use std::alloc::Global;

@@ -6,9 +6,10 @@ mod map;
 mod outputs;
 mod rule;
 mod schedule;
+mod source;
 mod work;
 
 pub use claims::{ClaimSeat, Claims};
-pub use map::claim_map;
+pub use map::{claim_map, share_map};
 pub use schedule::{Draw, draws_are_each_once, replay, seats_draw_the_schedule};
 pub use work::{Work, outputs_are_unique};
