@@ -18,7 +18,7 @@ ghost use Rattle.device_top.specs.Holding.{Answers, IsWant, held_refusal};
 ghost use Rattle.device_top.specs.Crashes.{Survives};
 ghost use Rattle.device_top.specs.Calls.{SaysWhich};
 
-use crate::held::{Held, HeldFault, held_in, store_of};
+use crate::held::{AttachedStore, HeldFault, held_in, store_of};
 use input_core::{FileFault, part_in, read_up_to};
 use line_core::stored as stored_line;
 use octets_core::NoMemory;
@@ -170,7 +170,7 @@ pub fn answer_install<'a, D: Disk, P: Depot>(
     ensures later { (D.state disk.old).faults ≤ (D.state disk.new).faults }
     ensures only_reads { OnlyReads P.Depot depot.old depot.new }
 {
-    let Held { slots, store } = match held_in(alloc, disk) {
+    let AttachedStore { slots, store } = match held_in(alloc, disk) {
         Ok(held) => held,
         Err(fault) => return not_held(asked.device.as_str(), fault),
     };

@@ -13,7 +13,7 @@ use store_core::{Store, decode_store};
 
 /// A device that was attached, and the store that its picked slot holds.
 #[derive(Drop)]
-pub struct Held {
+pub struct AttachedStore {
     pub slots: Slots,
     pub store: Store,
 }
@@ -55,7 +55,7 @@ pub fn store_of(alloc: Global, bytes: &[u8]) -> Result<Store, FileFault>
 }
 
 /// Attaches the device, and reads the store that its picked slot holds.
-pub fn held_in<D: Disk>(alloc: Global, disk: &mut D) -> Result<Held, HeldFault>
+pub fn held_in<D: Disk>(alloc: Global, disk: &mut D) -> Result<AttachedStore, HeldFault>
     ensures ok { IfOk result (λ held. HeldStore (D.state disk.old) (D.state disk.new) held.slots held.store) }
     ensures refusal { IfErr result (λ fault. NotHeld (D.state disk.old) (D.state disk.new) fault) }
     ensures later { (D.state disk.old).faults ≤ (D.state disk.new).faults }
@@ -64,5 +64,5 @@ pub fn held_in<D: Disk>(alloc: Global, disk: &mut D) -> Result<Held, HeldFault>
     let slots = Slots::attach(disk)?;
     let bytes = slots.read(disk, alloc)?;
     let store = store_of(alloc, &bytes)?;
-    Ok(Held { slots, store })
+    Ok(AttachedStore { slots, store })
 }
