@@ -122,7 +122,8 @@ class Model:
         """The state, and the ledger that the program wrote, are as the model says."""
         release = chain.release(world.state)
         assert release is not None
-        assert (release.generation, len(release.parts)) == (self.generation, len(self.parts))
+        assert release.generation == self.generation
+        assert {len(each.parts) for each in release.chains} == {len(self.parts)}
         query = """SELECT l.key, e.time, i.key, e.serial, e.until, e.epoch IS NOT NULL FROM entry e
             JOIN log l ON l.id = e.log JOIN issuer i ON i.id = e.issuer WHERE e.aside IS NULL"""
         rows = sorted(world.state.db.execute(query).fetchall(), key=repr)
@@ -141,16 +142,22 @@ class Model:
     def compare_ledger(self, world: Spooled) -> None:
         newest = chain.newest(world.state)
         assert newest is not None
-        ledger = files.read_ledger(newest.places["whole"].ledger.read_bytes())
-        assert [part.epoch for part in ledger.parts] == [part.epoch for part in self.parts]
-        for held, part in zip(ledger.parts, self.parts):
-            assert held.issuers == sorted(key_of(issuer) for issuer in part.issuers)
-            assert held.ranges == sorted((log_of(log), *covered) for log, covered in part.ranges.items())
+        ledgers = [files.read_ledger(held.ledger.read_bytes()) for held in newest.places.values()]
+        for place, part in enumerate(self.parts):
+            held = [ledger.parts[place] for ledger in ledgers]
+            assert {each.epoch for each in held} == {part.epoch} and all(
+                len(e.parts) == len(self.parts) for e in ledgers
+            )
+            assert {issuer for each in held for issuer in each.issuers} == {key_of(issuer) for issuer in part.issuers}
+            ranges = sorted((log_of(log), *covered) for log, covered in part.ranges.items())
+            assert all(each.ranges == ranges for each in held)
         items = {
             reference.ident(key_of(issuer), serial): (item.birth, item.until, item.revoked)
             for (issuer, serial), item in self.items.items()
         }
-        assert {i.identity: (i.birth, i.until, i.last is not None) for i in ledger.items} == items
+        kept = [item for ledger in ledgers for item in ledger.items]
+        assert len(kept) == len(items)
+        assert {i.identity: (i.birth, i.until, i.last is not None) for i in kept} == items
         rows = world.state.db.execute(
             "SELECT i.key, serial, birth, until, revoked IS NOT NULL FROM identity k JOIN issuer i ON i.id = k.issuer"
         )

@@ -8,6 +8,7 @@ import pytest
 from hypothesis import HealthCheck, given, settings
 from hypothesis import strategies as some
 
+from clubcard.places import Places
 from clubcard.publish import chain
 from clubcard.publish.config import Config
 from clubcard.publish.epoch import Limits
@@ -16,6 +17,7 @@ from spooled import HOUR, MMD, T, Seen, Spooled, at, config_of, key_of, log_of
 
 LOGS = (0, 1)
 ISSUERS = (0, 1, 2)
+PLACES = (None, None, Places("issuer", 2, {"0000": 2}), Places("identity", 2))
 
 
 @some.composite
@@ -52,6 +54,7 @@ def events(draw: some.DrawFn) -> dict[str, Any]:
             some.lists(entry, max_size=24, unique_by=lambda each: (each[1].log, each[1].time, each[1].serial))
         ),
         "epochs": draw(some.lists(one, min_size=epochs, max_size=epochs)),
+        "places": draw(some.sampled_from(PLACES)),
         "most": draw(some.sampled_from([2, 5, 4_194_304])),
         "words": {
             "rebase_after": draw(some.sampled_from([1, 2, 3, 40, 40])),
@@ -82,17 +85,18 @@ def config_at(folder: Path, one: dict[str, Any], words: dict[str, Any]) -> Confi
 @settings(max_examples=60, deadline=None, suppress_health_check=[HealthCheck.too_slow])
 @given(events())
 def test_any_history(tmp_path_factory: pytest.TempPathFactory, happens: dict[str, Any]) -> None:
-    """Whatever logs, authorities and the operator do: state, ledger and store are as the rules say, and the published
-    store says the truth of whatever a client may ask about."""
+    """Whatever logs, authorities and the operator do, with places and without: state, ledgers and stores are as the
+    rules say, and the published stores say the truth of whatever a client may ask about."""
     folder = tmp_path_factory.mktemp("history")
-    world = Spooled.of(folder, ISSUERS, LOGS, **happens["words"])
+    placed = happens["words"] | {"places": happens["places"]}
+    world = Spooled.of(folder, ISSUERS, LOGS, **placed)
     world.limits = Limits(entries=happens["most"])
     model, have = Model(**happens["words"]), {log: 0 for log in LOGS}
     newest: dict[int, int] = {}
     standing: dict[int, tuple[int, int]] = {}
     for place, one in enumerate(happens["epochs"]):
         moment = at(4 * place + 4)
-        world.config = config_at(folder, one, happens["words"])
+        world.config = config_at(folder, one, placed)
         tree = sorted((each for each in happens["tree"] if each[0] <= moment), key=lambda each: int(each[0]))
         for log, kind in zip(LOGS, one["logs"]):
             merged = [entry for _, entry in tree if entry.log == log]

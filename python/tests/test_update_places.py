@@ -16,6 +16,7 @@ from asked import ctl
 from clubcard import Fleet, FleetError, Query, Refusal, Refused, Sighting, Verdict, minisign
 from clubcard.http import Client
 from clubcard.manifest import from_json
+from clubcard.places import Places
 from clubcard.publish.site import signature_name
 from clubcard.update.config import Config, ConfigError, load
 from clubcard.update.run import Outcome, run
@@ -53,22 +54,23 @@ class Site:
         return self.signed(epoch, json.dumps(json.loads(self.text(epoch)) | members).encode())
 
 
-@pytest.fixture(name="site", scope="module")
-def placed_site(tmp_path_factory: pytest.TempPathFactory) -> Site:
-    """Three epochs; behind the third one the chain begins anew."""
-    placed = Placed.of(tmp_path_factory.mktemp("places"), rebase_after=3)
-    site = Site(placed, [], [])
+def made_site(placed: Placed, epochs: int) -> Site:
+    """The site of some epochs."""
+    site, folder = Site(placed, [], []), placed.world.config.site
     with pytest.MonkeyPatch.context() as patch:
         patch.setattr("clubcard.publish.charts._svg", lambda chart, figures: b"<svg/>")
-        for epoch in range(1, EPOCHS + 1):
-            assert placed.epoch(epoch).rebased == (epoch == EPOCHS)
-            folder = placed.world.config.site
-            files = [
-                path for path in folder.rglob("*") if path.is_file() and path.suffix in (".json", ".minisig", ".part")
-            ]
+        for epoch in range(1, epochs + 1):
+            placed.epoch(epoch)
+            files = [path for path in folder.rglob("*") if path.suffix in (".json", ".minisig", ".part")]
             site.pages.append({str(path.relative_to(folder)): path.read_bytes() for path in files})
             site.truths.append(placed.truth())
     return site
+
+
+@pytest.fixture(name="site", scope="module")
+def placed_site(tmp_path_factory: pytest.TempPathFactory) -> Site:
+    """Three epochs; behind the third one the chain begins anew."""
+    return made_site(Placed.of(tmp_path_factory.mktemp("places"), rebase_after=EPOCHS), EPOCHS)
 
 
 @dataclass
@@ -143,6 +145,16 @@ def test_three_epochs(client: Follower, site: Site, web: Web) -> None:
 def test_catching_up(client: Follower, site: Site, web: Web) -> None:
     web.show(site.pages[1])
     client.update(2)
+
+
+def test_places_without_certificates(web: Web, tmp_path: Path) -> None:
+    """Places that hold nothing have equal parts and stores, each of which is kept once."""
+    site = made_site(Placed.of(tmp_path / "publisher", Places("issuer", 16)), 2)
+    client = Follower(tmp_path / "client", site, web.base)
+    for epoch in (1, 2):
+        web.show(site.pages[epoch - 1])
+        client.update(epoch)
+        assert len(client.files()) <= 4 + 1 + 1
 
 
 # ---------- all or none
