@@ -25,6 +25,10 @@ from made import PROGRAM
 from placed import LARGE, PLACES, Placed, place_of
 from spooled import at, key_of, log_of
 from test_update_kills import run_once
+from web.network import Servers
+from web.play import Play
+from web.site import ask
+from web.worlds import four_epochs
 
 EPOCHS = 3
 WORDS = {Verdict.GOOD: "good", Verdict.REVOKED: "revoked"}
@@ -155,6 +159,29 @@ def test_places_without_certificates(web: Web, tmp_path: Path) -> None:
         web.show(site.pages[epoch - 1])
         client.update(epoch)
         assert len(client.files()) <= 4 + 1 + 1
+
+
+def test_a_real_publisher(tmp_path: Path) -> None:
+    """Behind each epoch of a small world, over real servers, no answer is wrong, and the client's stores answer what
+    the publisher's do."""
+    with Servers(tmp_path / "nginx") as servers, Play(four_epochs(60), tmp_path / "play", servers) as play:
+        play.places = '[places]\nby = "issuer"\ncount = 2\nagain = { 0000 = 2, 0001 = 3 }'
+        line = minisign.public_line(tmp_path / "play" / "publisher.pub")
+        words = {"site": f"{servers.nginx.base}site", "key": line, "store": "stores", "program": PROGRAM}
+        (tmp_path / "client.toml").write_text("".join(f'{key} = "{value}"\n' for key, value in words.items()))
+
+        def follow(play: Play, epoch: int) -> None:
+            assert run(load(tmp_path / "client.toml"), play.world.now(epoch), patient()).status == 0
+            questions = [(one.issuer, one.serial, seen) for one, seen in play.questions(epoch)]
+            queries = [Query(i, s, [Sighting(*each) for each in seen]) for i, s, seen in questions]
+            said = Fleet.from_folder(tmp_path / "stores").query_each(queries)
+            words = [each.name.lower().replace("_", "-") for each in said]
+            assert words == ask(play.published[-1].store, questions) and len(words) > 100
+
+        play.play(follow)
+        assert not play.findings and not play.misled, play.told()
+        assert [published.generation for published in play.published] == [1, 1, 2, 2]
+        assert play.count.answers["good"] > 100 and play.count.answers["revoked"] > 20
 
 
 # ---------- all or none

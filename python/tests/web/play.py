@@ -17,7 +17,7 @@ from .authority import der_of, pem_of
 from .issuing import Issued
 from .network import PageClient, Servers, Shown
 from .oracle import Openssl, Part, Sighting, Truth
-from .site import PROGRAM, Published, Reader, ask, ask_certificate, shown
+from .site import PROGRAM, Published, Reader, ask, ask_certificate
 from .world import World, named, told
 
 FEW = 60
@@ -66,6 +66,8 @@ class Play:
         self.newest = -1
         self.misled: list[str] = []
         self.head = 0
+        self.places = ""
+        """The lines of CONFIG on places."""
 
     def __enter__(self) -> "Play":
         return self
@@ -101,6 +103,7 @@ class Play:
             lines += [self._issuer(place, group) for group in groups if named(spec, epoch)]
         logs = [log for log in self.shown.things.logs if named(log.spec, epoch)]
         lines += [log.toml(self.shown.log_base(log.place), epoch) for log in logs]
+        lines.append(self.places)
         path = self.folder / "CONFIG.toml"
         path.write_text("\n".join(lines))
         return path
@@ -165,7 +168,7 @@ class Play:
 
     def _follow(self, epoch: int, published: Published) -> None:
         """The chain that is published goes on, or begins anew."""
-        newest = shown(published.parts[-1])
+        newest = published.newest_part
         begins = not self.published or published.generation != self.published[-1].generation
         part = Part(newest.ranges, frozenset(published.enrolled)) if begins else newest
         wanted = {self.shown.things.authorities[place].hash for place in self.truth.can_enrol(epoch)}
@@ -212,7 +215,7 @@ class Play:
         self, published: Published, some: list[tuple[tuple[Issued, tuple[Sighting, ...]], str]]
     ) -> None:
         """Asks by the certificate itself and its issuer's: the library reads the same in them."""
-        for (one, _), answer in some:
+        for (one, _), answer in () if published.store.is_dir() else some:
             issuer = der_of(self.shown.things.authorities[one.cert.issuer].certificates[0])
             assert ask_certificate(published.store, one.der, issuer) == answer, self.told()
 

@@ -2,6 +2,7 @@
 
 import hashlib
 import json
+import shutil
 import subprocess
 from collections.abc import Callable
 from dataclasses import dataclass
@@ -10,8 +11,11 @@ from typing import Any
 
 from clubcard import Query, Refusal, Sighting, Store, Verdict
 
+from made import second_program
+
 from .oracle import Part
 
+reference = second_program("reference")
 PROJECT = Path(__file__).resolve().parents[3]
 PROGRAM = PROJECT / "release" / "clubcard-x86_64-linux"
 _WORDS = {
@@ -54,6 +58,16 @@ class Published:
     manifest: dict[str, Any]
     parts: tuple[Path, ...]
     store: Path
+    """The store; where there are places a folder with the store of each, by its name."""
+    newest: tuple[Path, ...]
+    """The newest part, or that of each place."""
+
+    @property
+    def newest_part(self) -> Part:
+        """The ranges and issuers of the newest parts."""
+        found = [shown(part) for part in self.newest]
+        assert all(part.ranges == found[0].ranges for part in found)
+        return Part(found[0].ranges, frozenset(issuer for part in found for issuer in part.issuers))
 
     @property
     def generation(self) -> int:
@@ -103,7 +117,7 @@ class Reader:
         words = ["minisign", "-V", "-q", "-p", str(self.key), "-m", str(name)]
         assert subprocess.run(words, check=False, capture_output=True).returncode == 0
         manifest: dict[str, Any] = json.loads(body)
-        assert manifest["format"] == 1
+        assert manifest["format"] == (2 if "places" in manifest else 1)
         return manifest
 
     def read(self) -> Published | None:
@@ -111,8 +125,22 @@ class Reader:
         manifest = self.manifest()
         if manifest is None:
             return None
+        chains = manifest["chains"] if manifest["format"] == 2 else [manifest]
+        made = [self._store(chain) for chain in chains]
+        parts = tuple(part for some, _ in made for part in some)
+        store, newest = made[0][1], tuple(some[-1] for some, _ in made)
+        if manifest["format"] == 2:
+            store = self.folder / f"stores{manifest['epoch']}"
+            store.mkdir(exist_ok=True)
+            (store / "places").write_text(json.dumps(manifest["places"]))
+            for chain, (_, file) in zip(chains, made):
+                shutil.copyfile(file, store / chain["place"])
+        return Published(manifest, parts, store, newest)
+
+    def _store(self, chain: dict[str, Any]) -> tuple[list[Path], Path]:
+        """The parts of a chain, and the store that they make, which is the manifest's."""
         names, store, parts = [], None, []
-        for told in manifest["parts"]:
+        for told in chain["parts"]:
             path = self._part(told)
             parts.append(path)
             names.append(told["sha256"])
@@ -123,8 +151,8 @@ class Reader:
             store = self.stores[tuple(names)]
         assert store is not None
         octets = store.read_bytes()
-        assert manifest["store"] == {"length": len(octets), "sha256": hashlib.sha256(octets).hexdigest()}
-        return Published(manifest, tuple(parts), store)
+        assert chain["store"] == {"length": len(octets), "sha256": hashlib.sha256(octets).hexdigest()}
+        return parts, store
 
     def _part(self, told: dict[str, Any]) -> Path:
         """A part's file, downloaded where it isn't there."""
@@ -136,10 +164,28 @@ class Reader:
         return path
 
 
+def place_of(places: dict[str, Any], issuer: bytes, serial: bytes) -> str:
+    """The place of a certificate, by the second program."""
+    identity = reference.ident(issuer, serial)
+    by_issuer = places["by"] == "issuer"
+    count = places["count"]
+    name = f"{reference.issuer_place(issuer, count) if by_issuer else reference.place(identity, count):04}"
+    again = places["again"].get(name)
+    return name if again is None else f"{name}.{reference.place(identity, again):04}"
+
+
 def ask(store: Path, questions: list[tuple[bytes, bytes, tuple[tuple[bytes, int], ...]]]) -> list[str]:
-    """What the library says of issuers, serials and sightings."""
+    """What the library says of issuers, serials and sightings, of each the store of its place."""
     queries = [Query(i, s, [Sighting(log, time) for log, time in seen]) for i, s, seen in questions]
-    answers = Store.from_file(store).query_each(queries)
+    at = {store: list(range(len(queries)))}
+    if store.is_dir():
+        places, at = json.loads((store / "places").read_text()), {}
+        for number, query in enumerate(queries):
+            at.setdefault(store / place_of(places, query.issuer, query.serial), []).append(number)
+    found: dict[int, Verdict | Refusal] = {}
+    for path, numbers in at.items():
+        found.update(zip(numbers, Store.from_file(path).query_each([queries[number] for number in numbers])))
+    answers = [found[number] for number in range(len(queries))]
     assert not any(isinstance(answer, Refusal) for answer in answers)
     return [_WORDS[answer] for answer in answers if isinstance(answer, Verdict)]
 
