@@ -45,7 +45,7 @@ class Placed:
         """A new one, which has made nothing yet."""
         for name in ("publisher", "other"):
             if not (folder / f"{name}.key").exists():
-                folder.mkdir(exist_ok=True)
+                folder.mkdir(parents=True, exist_ok=True)
                 minisign.new_key(folder / f"{name}.key", folder / f"{name}.pub")
         words = {"site": folder / "site", "key": folder / "publisher.key", "places": places, **more}
         return cls(Spooled.of(folder / "publisher", ISSUERS, (0, 1), **words))

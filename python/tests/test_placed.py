@@ -13,6 +13,7 @@ from clubcard.places import Places
 from clubcard.publish import chain, sums
 from clubcard.publish.epoch import Limits, NoEpoch
 from clubcard.publish.run import NO_EPOCH, run
+from clubcard.publish.state import State
 from clubcard.publish.status import gather, lines
 from placed import COUNT, ISSUERS, LARGE, PLACES, Placed, entry_of, place_of
 from spooled import Seen, at, dumped, key_of, log_of, reference
@@ -242,3 +243,19 @@ def test_lines_add_up() -> None:
     for change in ({"issuers": 8}, {"unread": 1}, {"uncovered": 3}, {"unenrolled": 9}, {"accepted": 31}):
         with pytest.raises(NoEpoch, match="of the whole job: some is lost"):
             sums.test_whole(total, replace(whole, **change))
+
+
+def test_states_of_other_versions(tmp_path: Path) -> None:
+    """One of before gets the tables of places; one with places is of a format that earlier programs refuse."""
+    before = Placed.of(tmp_path / "before", None)
+    before.epoch(1)
+    for kind, name in (("VIEW", "any_part"), ("VIEW", "any_chain"), ("TABLE", "place_part"), ("TABLE", "place_chain")):
+        before.world.state.db.execute(f"DROP {kind} {name}")
+    before.world.state.close()
+    before.world.state = State.open(before.world.config.state)
+    assert before.epoch(2).parts == 2 and before.world.ask(before.seen) == before.truth()
+    assert before.world.state.meta("format") == "1" and before.world.state.places() is None
+    placed = Placed.of(tmp_path / "placed")
+    assert placed.world.state.meta("format") == "1"
+    placed.epoch(1)
+    assert placed.world.state.meta("format") == "2" and placed.world.state.places() == PLACES
