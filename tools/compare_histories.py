@@ -11,11 +11,11 @@ of both kinds; in some histories with a job that is refused among them, or with 
 and the status of the refusal. Then an `audit` of one of the stores by all jobs, or with one among them that is refused.
 And a job of `sample`.
 
-Behind one of the jobs the chain is begun anew by `rebase`, or by `rebase-without` some issuers, at a moment at which
-some certificates may have expired. It goes on with the jobs behind that one, and is compared as the history was; in
-some histories it is itself begun anew behind one of its parts, and so on. The ledgers without dates, the damaged ones,
-and for each history a ledger of no history, are begun anew too. Before all histories stand such chains that were worked
-out by hand, and ledgers with as many issuers as a part may have, and one more.
+Behind one of the jobs the chain is begun anew by `rebase`, by `rebase-without` some issuers, or by `split` with what a
+place keeps, at a moment at which some certificates may have expired. It goes on with the jobs behind that one, and is
+compared as the history was; in some histories it is itself begun anew behind one of its parts, and so on. The ledgers
+without dates, the damaged ones, and for each history a ledger of no history, are begun anew too. Before all histories
+stand such chains that were worked out by hand, and ledgers with as many issuers as a part may have, and one more.
 
 It runs the program that `./clubcard` runs, prints a line, and ends with status 0 exactly where nothing differs; where
 something does, it says which history and what.
@@ -33,6 +33,7 @@ from program import path_of_program
 from reference import (
     Base,
     Crl,
+    EVERYTHING,
     Entry,
     Job,
     Ledger,
@@ -42,6 +43,7 @@ from reference import (
     SHARDED,
     T,
     UNDATED,
+    at_place,
     be,
     history_of,
     queries_bytes,
@@ -49,6 +51,7 @@ from reference import (
     sha,
     store,
     verdict,
+    without,
 )
 from reference_files import JobFile, audit, read_ledger, rebase, rehearse
 from three_jobs import ANSWERS, JOBS, K1, K2, LA, QUERIES
@@ -147,17 +150,18 @@ def publish(rng, history, i, at):
     if isinstance(member, Base):
         put(at("old ledger"), member.old_ledger.bytes)
         outputs = [at("part"), at("ledger0")]
-        return run(*rebase_words(at("old ledger"), member.moment, outputs, workers, member.without))
+        return run(*rebase_words(at("old ledger"), member.moment, outputs, workers, member.cut))
     put(at("job"), member.bytes())
     if i == 0:
         return run("snapshot", at("job"), at("part"), at("ledger0"), workers)
     return run("delta", at("job"), at(f"ledger{i - 1}"), at("part"), at(f"ledger{i}"), workers)
 
 
-def rebase_words(ledger, moment, outputs, workers, without):
-    """The words that begin a chain anew, with all issuers or without some."""
-    command = "rebase-without" if without else "rebase"
-    return [command, ledger, str(moment), *outputs, workers, *(issuer.hex() for issuer in without)]
+def rebase_words(ledger, moment, outputs, workers, cut):
+    """The words that begin a chain anew with what a cut keeps."""
+    command, *named = cut.words
+    before, behind = (named, []) if command == "split" else ([], named)
+    return [command, ledger, str(moment), *before, *outputs, workers, *behind]
 
 
 def compare_files(rng, history, parts, at):
@@ -200,7 +204,7 @@ def compare_damaged_ledgers(rng, history, at):
         data = damaged(rng, history.ledger(place - 1).bytes)
         data = rng.choice([data, data[:-32] + sha(data[:-32])])
         put(at("damaged"), data)
-        compare_rebase(data, rng.choice([0, T, 2**64 - 1]), at, random_without(rng, history.ledger(place - 1)))
+        compare_rebase(data, rng.choice([0, T, 2**64 - 1]), at, random_cut(rng, history.ledger(place - 1)))
         try:
             read_ledger(data)
         except Refused as refused:
@@ -249,25 +253,30 @@ def random_moment(rng, ledger):
     return rng.choice(at_dates) if at_dates and rng.random() < 0.8 else rng.choice([0, T, 2**64 - 1])
 
 
-def random_without(rng, ledger):
-    """Some issuers of a ledger and one that it hasn't, in any order, some of them twice; or none."""
-    if rng.random() < 0.4:
-        return ()
+def random_cut(rng, ledger):
+    """Everything, what a place keeps, or all but some issuers of a ledger and one that it hasn't, in any order, some of
+    them twice."""
+    kind = rng.random()
+    if kind < 0.3:
+        return EVERYTHING
+    if kind < 0.6:
+        count = rng.choice([1, 2, 3, 65536])
+        return at_place(rng.choice(["issuer", "identity"]), count, rng.randrange(count))
     issuers = sorted({issuer for part in ledger.parts for issuer in part.issuers})
     named = [issuer for issuer in issuers if rng.random() < 0.4] or [random_octets(rng, 32)]
     named += rng.choices(named + [random_octets(rng, 32)], k=rng.randint(0, 2))
     rng.shuffle(named)
-    return tuple(named)
+    return without(named)
 
 
-def compare_rebase(data, moment, at, without=()):
+def compare_rebase(data, moment, at, cut=EVERYTHING):
     """Begins a chain anew from a file, of a history's ledger or not. Gives whether it is refused."""
     outputs = [at("new part"), at("new ledger")]
     for path in [at("old ledger"), *outputs]:
         put(path, data)
-    status, text, wanted = rebase(at("old ledger"), data, moment, without)
-    told = run(*rebase_words(at("old ledger"), moment, outputs, "2", without))
-    same(f"rebase at {moment} without {without}", told, (status, text))
+    status, text, wanted = rebase(at("old ledger"), data, moment, cut)
+    told = run(*rebase_words(at("old ledger"), moment, outputs, "2", cut))
+    same(f"rebase at {moment} with {cut.words}", told, (status, text))
     same(f"outputs of rebase at {moment}", [held(path) for path in outputs], wanted or [data, data])
     return status != 0
 
@@ -291,7 +300,7 @@ def compare_any_ledger(rng, at):
         for place in range(rng.choice([1, 2, 64]))
     ]
     ledger = Ledger(parts, random_items(rng, rng.sample(issuers, rng.randint(0, len(issuers))), len(parts)))
-    refused = compare_rebase(ledger.bytes, random_moment(rng, ledger), at, random_without(rng, ledger))
+    refused = compare_rebase(ledger.bytes, random_moment(rng, ledger), at, random_cut(rng, ledger))
     same("refusal of a ledger", refused, False)
 
 
@@ -301,7 +310,7 @@ def compare_begun_anew(rng, history, at):
     place = rng.randrange(len(history.members))
     front = history_of(tuple(history.members[: place + 1]))
     ledger = front.ledger(place)
-    base = Base(front, random_moment(rng, ledger), random_without(rng, ledger))
+    base = Base(front, random_moment(rng, ledger), random_cut(rng, ledger))
     anew = history_of((base, *history.members[place + 1 :]))
     parts = anew.parts()
     compare_files(rng, anew, parts, at)
@@ -313,31 +322,35 @@ def compare_begun_anew(rng, history, at):
 
 
 def rows_by_hand():
-    """Histories, a moment, issuers, the line of a rebase of the last ledger without these, and how many bytes the part
+    """Histories, a moment, what is kept, the line of a rebase of the last ledger with that, and how many bytes the part
     and its ledger have."""
     entries = [Entry(K1, b"\5", LA, T), Entry(K1, b"\x09", LA, T, until=T // 1000)]
     others = [Entry(K2, b"\7", LA, T, until=T // 1000), Entry(K2, b"\x08", LA, T)]
     dated = [Job(1, T, [(LA, T, T + 1000)], [(K1, Crl([b"\5"]))], entries)]
     both = [Job(1, T, [(LA, T, T + 1000)], [(K1, Crl([b"\5"])), (K2, Crl([b"\7"]))], entries + others)]
-    anew, without = "rebase epoch", "rebase-without epoch"
+    anew, said = "rebase epoch", "rebase-without epoch"
+    first, last = at_place("issuer", 3, 0), at_place("issuer", 3, 2)
     return [
-        (JOBS, 2**64 - 1, (), f"{anew} 3 issuers 1 universe 3 revoked 1 pruned 0", [276, 331]),
-        (JOBS, 0, (K2,), f"{without} 3 issuers 1 universe 3 revoked 1 pruned 0 left 0", [276, 331]),
-        (dated, T, (), f"{anew} 1 issuers 1 universe 2 revoked 1 pruned 0", [199, 254]),
-        (dated, T + 1, (), f"{anew} 1 issuers 1 universe 1 revoked 1 pruned 1", [169, 209]),
-        (both, T, (K2, LA, K2), f"{without} 1 issuers 1 universe 2 revoked 1 pruned 0 left 2", [199, 254]),
-        (both, T + 1, (LA, K2), f"{without} 1 issuers 1 universe 1 revoked 1 pruned 1 left 2", [169, 209]),
-        (both, T + 1, (K1,), f"{without} 1 issuers 1 universe 1 revoked 0 pruned 1 left 2", [169, 209]),
-        (both, T + 1, (K2, K1), f"{without} 1 issuers 0 universe 0 revoked 0 pruned 0 left 4", [136, 140]),
+        (JOBS, 2**64 - 1, EVERYTHING, f"{anew} 3 issuers 1 universe 3 revoked 1 pruned 0", [276, 331]),
+        (JOBS, 0, without([K2]), f"{said} 3 issuers 1 universe 3 revoked 1 pruned 0 left 0", [276, 331]),
+        (JOBS, 0, first, "split 0 of 3 epoch 3 issuers 1 universe 3 revoked 1 pruned 0 left 0", [276, 331]),
+        (dated, T, EVERYTHING, f"{anew} 1 issuers 1 universe 2 revoked 1 pruned 0", [199, 254]),
+        (dated, T + 1, EVERYTHING, f"{anew} 1 issuers 1 universe 1 revoked 1 pruned 1", [169, 209]),
+        (both, T, without([K2, LA, K2]), f"{said} 1 issuers 1 universe 2 revoked 1 pruned 0 left 2", [199, 254]),
+        (both, T, first, "split 0 of 3 epoch 1 issuers 1 universe 2 revoked 1 pruned 0 left 2", [199, 254]),
+        (both, T, last, "split 2 of 3 epoch 1 issuers 0 universe 0 revoked 0 pruned 0 left 4", [136, 140]),
+        (both, T + 1, without([LA, K2]), f"{said} 1 issuers 1 universe 1 revoked 1 pruned 1 left 2", [169, 209]),
+        (both, T + 1, without([K1]), f"{said} 1 issuers 1 universe 1 revoked 0 pruned 1 left 2", [169, 209]),
+        (both, T + 1, without([K2, K1]), f"{said} 1 issuers 0 universe 0 revoked 0 pruned 0 left 4", [136, 140]),
     ]
 
 
 def compare_rows(at):
-    for members, moment, without, line, sizes in rows_by_hand():
-        base = Base(history_of(tuple(members)), moment, without)
+    for members, moment, cut, line, sizes in rows_by_hand():
+        base = Base(history_of(tuple(members)), moment, cut)
         same("line by hand", base.line, line)
         same("sizes by hand", [len(base.part.bytes), len(base.ledger.bytes)], sizes)
-        compare_rebase(base.old_ledger.bytes, moment, at, without)
+        compare_rebase(base.old_ledger.bytes, moment, at, cut)
         if members is JOBS:
             same("store by hand", run("start", at("new part"), at("store")), (0, "store parts 1 epoch 3\n"))
             answers = [ask(at("store"), *query) for query in QUERIES]
@@ -352,9 +365,11 @@ def crowded(issuers):
 
 def compare_limit(at):
     """Begins a chain anew with as many issuers as a part may have, and with one more; of which one may be left out."""
-    for issuers, without in ((65535, ()), (65536, ()), (65536, (be(7, 32),)), (65537, (be(7, 32),))):
-        refused = compare_rebase(crowded(issuers).bytes, 0, at, without)
-        same(f"refusal with {issuers} issuers", refused, issuers - len(without) > 65535)
+    for issuers, named in ((65535, []), (65536, []), (65536, [be(7, 32)]), (65537, [be(7, 32)])):
+        refused = compare_rebase(crowded(issuers).bytes, 0, at, without(named))
+        same(f"refusal with {issuers} issuers", refused, issuers - len(named) > 65535)
+    same("refusal of all identities", compare_rebase(crowded(65536).bytes, 0, at, at_place("identity", 2, 0)), True)
+    same("refusal of some issuers", compare_rebase(crowded(65536).bytes, 0, at, at_place("issuer", 2, 0)), False)
 
 
 def damaged(rng, data):

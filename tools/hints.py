@@ -56,6 +56,7 @@ COMMANDS = (
     Command("delta", "JOB LEDGER PART NEWLEDGER WORKERS", written="PART NEWLEDGER"),
     Command("rebase", "LEDGER MOMENT PART NEWLEDGER WORKERS", written="PART NEWLEDGER"),
     Command("rebase-without", "LEDGER MOMENT PART NEWLEDGER WORKERS", "ISSUER", 1024, written="PART NEWLEDGER"),
+    Command("split", "LEDGER MOMENT BY COUNT PLACE PART NEWLEDGER WORKERS", written="PART NEWLEDGER"),
     Command("start", "PART STORE", written="STORE"),
     Command("install", "STORE PART NEWSTORE", written="NEWSTORE"),
     Command("query", "STORE ISSUER SERIAL", "LOG TIME", 64),
@@ -194,6 +195,8 @@ def name_fault(word: str) -> str | None:
 FAULTS: dict[str, Callable[[str], str | None]] = {
     "BY": way_fault,
     "place COUNT": bounded_fault(1, 65536),
+    "split COUNT": bounded_fault(1, 65536),
+    "PLACE": bounded_fault(0, 65535),
     "ISSUER": issuer_fault,
     "LOG": log_fault,
     "SERIAL": serial_fault,
@@ -215,12 +218,21 @@ def same_names(command: Command, words: list[str]) -> Iterator[str]:
             yield f"{name} and {other} are both {shown(word)}; a file that is written is no other file of the command"
 
 
+def far_place(command: Command, words: list[str]) -> Iterator[str]:
+    """What is wrong with a place that there isn't among so many."""
+    given = dict(command.named(words))
+    place, count = given.get("PLACE", ""), given.get("COUNT", "")
+    if number_fault(place) is None and number_fault(count) is None and int(place) >= int(count):
+        yield f"PLACE {shown(place)} isn't below COUNT, which is {count}"
+
+
 def word_faults(command: Command, words: list[str]) -> Iterator[str]:
     """What is wrong with the words behind a command, whose number fits."""
     for name, word in command.named(words):
         fault = FAULTS.get(f"{command.name} {name}", FAULTS.get(name, name_fault))(word)
         if fault:
             yield f"{name} {shown(word)} {fault}"
+    yield from far_place(command, words)
     yield from same_names(command, words)
 
 

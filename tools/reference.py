@@ -505,46 +505,81 @@ def is_expired(until, moment):
     return until is not None and 1000 * until < moment
 
 
-def rebased(ledger, moment, without=()):
-    """What any ledger comes to without what has expired at a moment, and without some issuers: the part, its ledger,
-    and the line, which tells of identities that are left out where issuers are."""
-    newest, without = ledger.parts[-1], frozenset(without)
-    issuers = sorted({issuer for part in ledger.parts for issuer in part.issuers} - without)
+class Cut(typing.NamedTuple):
+    """What a chain begun anew keeps: which issuers it takes, and which of their identities; and the words of a call,
+    but for names, moment and workers, and how the line begins."""
+
+    takes: typing.Callable
+    chooses: typing.Callable
+    words: tuple
+    said: str
+
+    def keeps(self, identity):
+        return self.takes(identity[0]) and self.chooses(identity)
+
+
+def each(_):
+    return True
+
+
+EVERYTHING = Cut(each, each, ("rebase",), "rebase")
+
+
+def without(issuers):
+    """All but some issuers, if there are some."""
+    command = "rebase-without"
+    named = (command, *(issuer.hex() for issuer in issuers))
+    return Cut(lambda issuer: issuer not in issuers, each, named, command) if issuers else EVERYTHING
+
+
+def at_place(way, count, here):
+    """What one place of so many keeps, by issuer or by identity."""
+    words, said = ("split", way, str(count), str(here)), f"split {here} of {count}"
+    if way == "issuer":
+        return Cut(lambda issuer: issuer_place(issuer, count) == here, each, words, said)
+    return Cut(each, lambda identity: place(identity, count) == here, words, said)
+
+
+def rebased(ledger, moment, cut=EVERYTHING):
+    """What any ledger comes to without what has expired at a moment, and without what a cut doesn't keep: the part, its
+    ledger, and the line, which tells of identities that are left out where not everything is kept."""
+    newest = ledger.parts[-1]
+    issuers = sorted({issuer for part in ledger.parts for issuer in part.issuers if cut.takes(issuer)})
     if len(issuers) > 65535:
         raise Refused(6, "limit issuers 65535")
-    others = [item for item in ledger.items if item.identity[0] not in without]
+    others = [item for item in ledger.items if cut.keeps(item.identity)]
     kept = [item for item in others if not is_expired(item.until, moment)]
     revoked = [item.identity for item in kept if item.last is not None]
     blocks = build_blocks(issuers, [item.identity for item in kept], revoked, DATED)
     part = Part(0, newest.epoch, bytes(32), newest.ranges, blocks)
     items = [LedgerItem(item.identity, 0, None if item.last is None else 0, item.until) for item in kept]
-    command, left = ("rebase-without", f" left {len(ledger.items) - len(others)}") if without else ("rebase", "")
+    left = "" if cut is EVERYTHING else f" left {len(ledger.items) - len(others)}"
     line = (
-        f"{command} epoch {part.epoch} issuers {len(issuers)} universe {len(kept)} revoked {len(revoked)} "
+        f"{cut.said} epoch {part.epoch} issuers {len(issuers)} universe {len(kept)} revoked {len(revoked)} "
         f"pruned {len(others) - len(kept)}{left}"
     )
     return part, Ledger([LedgerPart(part.epoch, part.trailer, part.ranges, issuers)], items), line
 
 
 class Base(Member):
-    """What a history may begin with in place of a job: what another one comes to at a moment, without some issuers. It
-    has the ranges of the newest member of that one, the other issuers of all, and the identities of these that haven't
-    expired, with their sightings, their dates, and whether they are listed, all as at its end. It has no entries of its
-    own."""
+    """What a history may begin with in place of a job: what a cut keeps of another one at a moment. It has the ranges
+    of the newest member of that one, the issuers of all that the cut takes, and the identities that it keeps and that
+    haven't expired, with their sightings, their dates, and whether they are listed, all as at its end. It has no
+    entries of its own."""
 
     entries = ()
 
-    def __init__(self, history, moment, without=()):
+    def __init__(self, history, moment, cut=EVERYTHING):
         last = len(history.members) - 1
-        others = [x for x in sorted(history.identities(last)) if x[0] not in without]
+        others = [x for x in sorted(history.identities(last)) if cut.keeps(x)]
         kept = [x for x in others if not is_expired(history.until(x, last), moment)]
-        self.history, self.moment, self.without = history, moment, without
+        self.history, self.moment, self.cut = history, moment, cut
         self.epoch, self.ranges = history.members[last].epoch, history.members[last].ranges
-        self.issuers = {issuer for member in history.members for issuer in member.enrolled() if issuer not in without}
+        self.issuers = {issuer for member in history.members for issuer in member.enrolled() if cut.takes(issuer)}
         self.held = [(x, s, history.until(x, last)) for x in kept for s in history.sightings(x, last)]
         self.listed = {x for x in kept if history.listed(x, last)}
         self.old_ledger = history.ledger(last)
-        self.part, self.ledger, self.line = rebased(self.old_ledger, moment, without)
+        self.part, self.ledger, self.line = rebased(self.old_ledger, moment, cut)
 
     def enrolled(self):
         return self.issuers

@@ -3,6 +3,7 @@ that breaks one is named, and so is why a job is refused; chains begun anew from
 of files of jobs."""
 
 from reference import (
+    EVERYTHING,
     Ledger,
     LedgerItem,
     LedgerPart,
@@ -211,11 +212,11 @@ def read_ledger(data):
     return ledger
 
 
-def rebase(name, data, moment, without=()):
-    """The status and the text of `rebase`, or of `rebase-without` where issuers are named, of a ledger's name and
-    bytes, and what it writes: a part and its ledger, or nothing."""
+def rebase(name, data, moment, cut=EVERYTHING):
+    """The status and the text of `rebase`, or of `rebase-without` or `split` where not everything is kept, of a
+    ledger's name and bytes, and what it writes: a part and its ledger, or nothing."""
     try:
-        part, ledger, line = rebased(read_ledger(data), moment, without)
+        part, ledger, line = rebased(read_ledger(data), moment, cut)
     except Refused as refused:
         return refused.status, refused.line(name), []
     return 0, line + "\n", [part.bytes, ledger.bytes]

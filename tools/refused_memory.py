@@ -26,7 +26,7 @@ import sys
 import tempfile
 
 from program import path_of_program
-from reference import Base, T, History, queries_bytes, sample, store, text_of, verdict
+from reference import Base, T, History, at_place, queries_bytes, sample, store, text_of, verdict, without
 from three_jobs import JOBS, K1, LA, QUERIES
 
 SHIM = r"""
@@ -82,7 +82,8 @@ def files_and_runs():
     answers = [verdict(parts, *query) for query in QUERIES]
     made, made_line = sample(7, 1)
     base = Base(History(JOBS[:1]), T)
-    without = Base(History(JOBS[:1]), T, [K1])
+    without_one = Base(History(JOBS[:1]), T, without([K1]))
+    split = Base(History(JOBS[:1]), T, at_place("identity", 2, 1))
     files = {
         "J0": JOBS[0].bytes(),
         "J1": JOBS[1].bytes(),
@@ -100,9 +101,10 @@ def files_and_runs():
         Run(f"rebase /L {T} /X /Y 1", [base.line], {"X": base.part.bytes, "Y": base.ledger.bytes}),
         Run(
             f"rebase-without /L {T} /X /Y 1 {K1.hex()}",
-            [without.line],
-            {"X": without.part.bytes, "Y": without.ledger.bytes},
+            [without_one.line],
+            {"X": without_one.part.bytes, "Y": without_one.ledger.bytes},
         ),
+        Run(f"split /L {T} identity 2 1 /X /Y 1", [split.line], {"X": split.part.bytes, "Y": split.ledger.bytes}),
         Run("start /P0 /X", ["store parts 1 epoch 1"], {"X": store(parts[:1])}),
         Run("install /S /P1 /X", ["store parts 2 epoch 2"], {"X": store(parts[:2])}),
         Run(f"query /S {K1.hex()} 05 {LA.hex()} {T}", ["good"], {}),

@@ -7,10 +7,13 @@ from typing import NamedTuple
 
 import scenario_words as words_of
 from reference import (
+    Cut,
+    EVERYTHING,
     Job,
     Part,
     Refused,
     SeedsExhausted,
+    at_place,
     crl_record,
     entry_record,
     history_of,
@@ -20,6 +23,7 @@ from reference import (
     sample,
     store,
     verdict,
+    without,
 )
 from reference_files import Disagrees, agreed, follow, read_ledger, read_part, read_queries
 from scenario_device import GREATEST, Device
@@ -87,6 +91,7 @@ class World:
             "delta": Shape(5, 5, self.delta),
             "rebase": Shape(5, 5, self.rebase),
             "rebase-without": Shape(6, 1029, self.rebase_without),
+            "split": Shape(8, 8, self.split),
             "start": Shape(2, 2, self.start),
             "install": Shape(3, 3, self.install),
             "query": Shape(5, 131, self.query),
@@ -156,14 +161,18 @@ class World:
         admit(job, ledger.parts)
         self.publish(published(job, ledger), part, new)
 
-    def rebase(self, old: str, moment: str, part: str, new: str, count: str, without: Sequence[bytes] = ()) -> None:
+    def rebase(self, old: str, moment: str, part: str, new: str, count: str, cut: Cut = EVERYTHING) -> None:
         at = words_of.number(moment)
         words_of.workers(count)
         words_of.apart([part, new], [old])
-        self.publish(Published(*rebased(read_ledger(self.fed(old)), at, without)), part, new)
+        self.publish(Published(*rebased(read_ledger(self.fed(old)), at, cut)), part, new)
 
     def rebase_without(self, old: str, moment: str, part: str, new: str, count: str, *issuers: str) -> None:
-        self.rebase(old, moment, part, new, count, words_of.keys(issuers, 1024))
+        self.rebase(old, moment, part, new, count, without(words_of.keys(issuers, 1024)))
+
+    def split(self, old: str, moment: str, by: str, places: str, here: str, part: str, new: str, count: str) -> None:
+        cut = at_place(words_of.by(by), *words_of.place_of(places, here))
+        self.rebase(old, moment, part, new, count, cut)
 
     def publish(self, what: Published, part: str, ledger: str) -> None:
         """Writes a part and its ledger."""

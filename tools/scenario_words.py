@@ -75,6 +75,12 @@ def by(word: str) -> str:
     return word
 
 
+def place_of(count: str, word: str) -> tuple[int, int]:
+    """A count of places, and a place below it."""
+    many = number(count, 1, 65536)
+    return many, number(word, 0, many - 1)
+
+
 def sightings(words: Sequence[str]) -> list[Sighting]:
     """Pairs of a log and a time, 1 to 64 of them."""
     if not 2 <= len(words) <= 128 or len(words) % 2:

@@ -27,6 +27,7 @@ WORDS = {
     "MOMENT": [*NUMBERS, "2023-11-14"],
     "NUMBER": NUMBERS,
     "WORKERS": [*NUMBERS, "four"],
+    "PLACE": ["0", "1", "65535", "65536", "-1", ""],
     "COUNT": ["1", "65536", "65537", "0", "1000001", "x"],
     "BY": ["issuer", "identity", "issuers", "ISSUER", ""],
     "CAPACITY": ["1", "0", "1099511627776", "1099511627777", "4k"],

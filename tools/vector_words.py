@@ -2,7 +2,7 @@
 
 from collections.abc import Callable
 
-from scenario_words import Usage, apart, by, identity, key, keys, name, names, number, sightings, workers
+from scenario_words import Usage, apart, by, identity, key, keys, name, names, number, place_of, sightings, workers
 
 # The words behind a command: names of files that are read and written, a number, a key, a way, a count of workers, and
 # names up to so many, names that are written, or keys.
@@ -55,7 +55,7 @@ def test_shape(shape: str, words: list[str]) -> None:
 
 def command_text(words: list[str]) -> str:
     """The command that words are; of a query its certificate and its sightings, of a sample its two numbers, of a place
-    by what it is, the certificate and the count."""
+    by what it is, the certificate and the count, of a split the moment, by what it is, the place and the count."""
     match words:
         case ["query", store, issuer, digits, *seen]:
             name(store)
@@ -69,6 +69,10 @@ def command_text(words: list[str]) -> str:
             _, _, octets = identity(issuer, digits)
             out = f"place by {by(way).capitalize()} issuer {key(issuer).hex()} serial {octets.hex()}"
             return f"{out} of {number(count, 1, 65536)}"
+        case ["split", ledger, moment, way, places, here, *rest]:
+            test_shape("read write write workers", [ledger, *rest])
+            many, at = place_of(places, here)
+            return f"split at {number(moment)} by {by(way).capitalize()} place {at} of {many}"
         case [command, *rest] if command in SHAPES:
             test_shape(SHAPES[command], rest)
             return "command"

@@ -118,11 +118,18 @@ class Engine:
         """Begins a chain anew, without the identities whose date is before the moment (milliseconds since 1970), and
         without these issuers (32 bytes each)."""
         if not without:
-            read = _one(lambda line: rebased(line, False))
+            read = _one(lambda line: rebased(line, "rebase"))
             return self._run(read, "rebase", ledger, moment, part, new_ledger, workers)
-        read = _one(lambda line: rebased(line, True))
+        read = _one(lambda line: rebased(line, "rebase-without"))
         named = [issuer.hex() for issuer in without]
         return self._run(read, "rebase-without", ledger, moment, part, new_ledger, workers, *named)
+
+    def split(
+        self, ledger: Name, moment: int, by: By, count: int, place: int, part: Name, new_ledger: Name, workers: int
+    ) -> Rebased:
+        """Begins the chain of one place of so many (1 to 65,536) anew, as `rebase` does."""
+        read = _one(lambda line: rebased(line, f"split {place} of {count}"))
+        return self._run(read, "split", ledger, moment, by.name.lower(), count, place, part, new_ledger, workers)
 
     def start(self, part: Name, store: Name) -> StoreFacts:
         """Begins a store with a snapshot."""

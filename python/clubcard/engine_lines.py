@@ -34,7 +34,7 @@ class Published:
 @dataclass(frozen=True)
 class Rebased:
     """A chain was begun anew: how many issuers its part has, how many identities are kept, how many of these are
-    revoked, how many were pruned, and how many were left out with their issuers (None where none was named)."""
+    revoked, how many were pruned, and how many were left out beside that (None where nothing else could be)."""
 
     epoch: int
     issuers: int
@@ -181,12 +181,12 @@ def published(line: str) -> Published:
     return Published(*numbers_of(line, form))
 
 
-def rebased(line: str, with_left: bool) -> Rebased:
-    """The line of `rebase`, or of `rebase-without`."""
-    form = "epoch # issuers # universe # revoked # pruned #"
-    if with_left:
-        return Rebased(*numbers_of(line, f"rebase-without {form} left #"))
-    epoch, issuers, universe, revoked, pruned = numbers_of(line, f"rebase {form}")
+def rebased(line: str, said: str) -> Rebased:
+    """The line of a chain begun anew, which begins with these words: it tells what is left out but behind `rebase`."""
+    form = f"{said} epoch # issuers # universe # revoked # pruned #"
+    if said != "rebase":
+        return Rebased(*numbers_of(line, f"{form} left #"))
+    epoch, issuers, universe, revoked, pruned = numbers_of(line, form)
     return Rebased(epoch, issuers, universe, revoked, pruned, None)
 
 

@@ -19,6 +19,7 @@ TRANSCRIPT = (made.TOP / "crates" / "scenarios" / "stdout").read_text(encoding="
 SHIPPED = made.TOP / "crates" / "clubcard" / "data" / "one_revoked.store"
 KEY = b"\x11" * 32
 NUMBERS = engine_lines.numbers_of
+BASE = "epoch # issuers # universe # revoked # pruned #"
 
 
 def alone(read: Callable[[str], Any]) -> Callable[[list[str]], Any]:
@@ -34,8 +35,9 @@ def alone(read: Callable[[str], Any]) -> Callable[[list[str]], Any]:
 READ: dict[str, Callable[[list[str]], Any]] = {
     "snapshot": alone(engine_lines.published),
     "delta": alone(engine_lines.published),
-    "rebase": alone(lambda line: engine_lines.rebased(line, False)),
-    "rebase-without": alone(lambda line: engine_lines.rebased(line, True)),
+    "rebase": alone(lambda line: engine_lines.rebased(line, "rebase")),
+    "rebase-without": alone(lambda line: engine_lines.rebased(line, "rebase-without")),
+    "split": alone(lambda line: NUMBERS(line, f"split # of # {BASE} left #")),
     "start": alone(engine._store_facts),
     "install": alone(engine._store_facts),
     "device-format": alone(engine._store_facts),
@@ -135,7 +137,11 @@ def test_lines_of_other_forms() -> None:
         for line in ("", "ok", "epoch 1", "part snapshot epoch -1 ranges 1 issuers 1 bytes 1"):
             with pytest.raises((ValueError, IndexError)):
                 print(command, read([line]))
-    assert engine_lines.rebased("rebase-without epoch 1 issuers 2 universe 3 revoked 4 pruned 5 left 6", True).left == 6
+    base = "epoch 1 issuers 2 universe 3 revoked 4 pruned 5"
+    for said in ("rebase-without", "split 0 of 3"):
+        assert engine_lines.rebased(f"{said} {base} left 6", said) == engine.Rebased(1, 2, 3, 4, 5, 6)
+        with pytest.raises(ValueError):
+            engine_lines.rebased(f"{said} {base}", said)
 
 
 # ---- the program
@@ -173,6 +179,10 @@ def test_a_chain(program: Engine, tmp_path: Path) -> None:
     base = program.rebase(at["later"], 1, at["base"], at["anew"], 2)
     assert base == engine.Rebased(2, 4, 200000, sampled.revoked, 0, None)
     assert program.show(at["base"]).parent == bytes(32)
+    split = program.split(at["later"], 1, engine.By.ISSUER, 1, 0, at["base"], at["anew"], 2)
+    assert split == engine.Rebased(2, 4, 200000, sampled.revoked, 0, 0)
+    with pytest.raises(engine.WrongWords):
+        program.split(at["later"], 1, engine.By.ISSUER, 1, 1, at["base"], at["anew"], 2)
     with pytest.raises(engine.BrokenChain) as broken:
         program.install(at["newer"], at["next"], at["store"])
     assert broken.value.why == "parent" and broken.value.details[1] == shown.trailer.hex()

@@ -11,11 +11,12 @@ use Rattle.outside_core.specs.Files.{Files}
 use Rattle.part_text.specs.SealedFields.{SealedFields}
 use Rattle.ledger_core.specs.LedgerFields.{LedgerFields}
 use Rattle.ident_core.specs.Among.{Among}
-use Rattle.ident_core.specs.Sets.{has, has_key}
+use Rattle.ident_core.specs.Sets.{has}
 use Rattle.ident_core.proofs.Elements.{Among-in_map, any_at}
 use Rattle.universe_core.specs.History.{Release, seen, sightings, is_listed}
 use Rattle.universe_core.specs.Ledgers.{ledger_of}
-use Rattle.history_core.specs.Bases.{kept_by, base_with, base_head, releases_without, is_lasting_by}
+use Rattle.place_core.specs.Cuts.{Cut, is_kept}
+use Rattle.history_core.specs.Bases.{kept_by, base_with, base_head, releases_cut, is_lasting_by}
 use Rattle.card_core.specs.declared.verdict.Verdict.{Verdict}
 use Rattle.card_core.specs.declared.verdict.Verdict.TheVariants.{NotCovered, NotEnrolled, Good, Revoked}
 use Rattle.card_core.specs.Consulting.{covers_some}
@@ -28,9 +29,9 @@ use Rattle.word_core.specs.declared.command.{Query.Query, Rebase.Rebase}
 use Rattle.line_core.specs.Lines.{line}
 use Rattle.command_core.specs.ReplyFields.{Done, NamedFault}
 use Rattle.command_core.specs.Commands.{only, verdict_word, query_done, Makes}
-use Rattle.command_core.specs.Rebasings.{base_done, rebased_as, MakesBase, MakesRebase}
+use Rattle.command_core.specs.Rebasings.{cut_without, base_done, rebased_as, MakesBase, MakesRebase}
 use Rattle.command_core.specs.Replies.{held_by}
-use Rattle.clubcard_top.specs.Headline.{AsksToRebase, BeginsAnew, IsRebasableWithout, base_of, IsKept, AsksTheBase, AsksStore, AsksTruth, AsksOfLeftOut, truth_line, truth_done}
+use Rattle.clubcard_top.specs.Headline.{AsksToRebase, BeginsAnew, IsRebasableCut, base_of, IsKept, AsksTheBase, AsksStore, AsksTruth, AsksOfLeftOut, truth_line, truth_done}
 use Rattle.clubcard_top.proofs.Made.{ReadBack, ledger_input}
 use Rattle.command_core.proofs.Results.{ok_same}
 use Rattle.command_core.proofs.Unique.{OneBase}
@@ -39,17 +40,17 @@ use Rattle.command_core.proofs.Unique.{OneBase}
 pub record BaseLayers : Type 0 where
   pub ledgers : ReadBack
   pub one : OneBase
-  pub rebasable : (h : History) (parts : List SealedFields) (moment : ℕ) (without : List (List ℕ)) (p : BasePublicationFields) → IsHistory h parts → 1 ≤ members h
-      → PublishesBase (ledger_of (releases_of h parts)) moment without (Ok p) → IsRebasableWithout moment without h parts
-  pub begins : (h : History) (parts : List SealedFields) (moment : ℕ) (without : List (List ℕ)) (p : BasePublicationFields) → IsHistory h parts → 1 ≤ members h
-      → PublishesBase (ledger_of (releases_of h parts)) moment without (Ok p) → IsHistory (base_of h parts moment without) (p.sealed ∷ [])
-  pub ledger : (h : History) (parts : List SealedFields) (moment : ℕ) (without : List (List ℕ)) (p : BasePublicationFields) → IsHistory h parts
-      → PublishesBase (ledger_of (releases_of h parts)) moment without (Ok p) → p.ledger ≡ ledger_of (releases_of (base_of h parts moment without) (p.sealed ∷ []))
-  pub numbers : (h : History) (parts : List SealedFields) (moment : ℕ) (without : List (List ℕ)) (p : BasePublicationFields) → IsHistory h parts
-      → PublishesBase (ledger_of (releases_of h parts)) moment without (Ok p) → p.counts ≡ base_counts moment without (releases_of h parts)
-  pub head : (without : List (List ℕ)) (rs : List Release) → base_head (releases_without without rs) ≡ base_head rs
-  pub complete : (h : History) (parts : List SealedFields) (moment : ℕ) (without : List (List ℕ)) → IsHistory h parts → IsRebasableWithout moment without h parts
-      → (p : BasePublicationFields) × PublishesBase (ledger_of (releases_of h parts)) moment without (Ok p)
+  pub rebasable : (h : History) (parts : List SealedFields) (moment : ℕ) (cut : Cut) (p : BasePublicationFields) → IsHistory h parts → 1 ≤ members h
+      → PublishesBase (ledger_of (releases_of h parts)) moment cut (Ok p) → IsRebasableCut moment cut h parts
+  pub begins : (h : History) (parts : List SealedFields) (moment : ℕ) (cut : Cut) (p : BasePublicationFields) → IsHistory h parts → 1 ≤ members h
+      → PublishesBase (ledger_of (releases_of h parts)) moment cut (Ok p) → IsHistory (base_of h parts moment cut) (p.sealed ∷ [])
+  pub ledger : (h : History) (parts : List SealedFields) (moment : ℕ) (cut : Cut) (p : BasePublicationFields) → IsHistory h parts
+      → PublishesBase (ledger_of (releases_of h parts)) moment cut (Ok p) → p.ledger ≡ ledger_of (releases_of (base_of h parts moment cut) (p.sealed ∷ []))
+  pub numbers : (h : History) (parts : List SealedFields) (moment : ℕ) (cut : Cut) (p : BasePublicationFields) → IsHistory h parts
+      → PublishesBase (ledger_of (releases_of h parts)) moment cut (Ok p) → p.counts ≡ base_counts moment cut (releases_of h parts)
+  pub head : (cut : Cut) (rs : List Release) → base_head (releases_cut cut rs) ≡ base_head rs
+  pub complete : (h : History) (parts : List SealedFields) (moment : ℕ) (cut : Cut) → IsHistory h parts → IsRebasableCut moment cut h parts
+      → (p : BasePublicationFields) × PublishesBase (ledger_of (releases_of h parts)) moment cut (Ok p)
 
 -- ---- rebasing
 
@@ -62,17 +63,17 @@ module _ (layers : BaseLayers) where
       (subst (λ (c : Command). Makes c (held_by c files) o) p.0 m)
 
   rebased_by : (r : Rebase) (h : History) (parts : List SealedFields) (d : Done) → IsHistory h parts → 1 ≤ members h → (x : Result BasePublicationFields BaseFault)
-      → PublishesBase (ledger_of (releases_of h parts)) r.moment r.without x → Ok d ≡ rebased_as r x
-      → (made : BasePublicationFields) × BeginsAnew h parts r.moment r.without made × (d ≡ base_done r made)
+      → PublishesBase (ledger_of (releases_of h parts)) r.moment (cut_without r.left) x → Ok d ≡ rebased_as r x
+      → (made : BasePublicationFields) × BeginsAnew h parts r.moment (cut_without r.left) made × (d ≡ base_done r made)
   rebased_by r h parts d is some (Ok p) publishes is_done =
-      let begins : IsHistory (base_of h parts r.moment r.without) (p.sealed ∷ []) = layers.begins h parts r.moment r.without p is some publishes in (
+      let begins : IsHistory (base_of h parts r.moment (cut_without r.left)) (p.sealed ∷ []) = layers.begins h parts r.moment (cut_without r.left) p is some publishes in (
         p,
         record {
-          rebasable = layers.rebasable h parts r.moment r.without p is some publishes;
+          rebasable = layers.rebasable h parts r.moment (cut_without r.left) p is some publishes;
           is_history = begins;
-          ledger = layers.ledger h parts r.moment r.without p is publishes;
-          epoch = ap (λ (head : HeadFields). head.epoch) (begins.2.head_is ∙ layers.head r.without (releases_of h parts));
-          counts = layers.numbers h parts r.moment r.without p is publishes;
+          ledger = layers.ledger h parts r.moment (cut_without r.left) p is publishes;
+          epoch = ap (λ (head : HeadFields). head.epoch) (begins.2.head_is ∙ layers.head (cut_without r.left) (releases_of h parts));
+          counts = layers.numbers h parts r.moment (cut_without r.left) p is publishes;
         },
         ok_same {E = NamedFault} d (base_done r p) is_done,
       )
@@ -81,22 +82,22 @@ module _ (layers : BaseLayers) where
 
   pub rebased_law : (asked : Command) (files : Files) (r : Rebase) (h : History) (parts : List SealedFields) (d : Done) → IsHistory h parts
       → AsksToRebase asked r h parts files → Makes asked (held_by asked files) (Ok d)
-      → (made : BasePublicationFields) × BeginsAnew h parts r.moment r.without made × (d ≡ base_done r made)
+      → (made : BasePublicationFields) × BeginsAnew h parts r.moment (cut_without r.left) made × (d ≡ base_done r made)
   rebased_law asked files r h parts d is p m =
       let x = made asked files r h parts (Ok d) is p m in
       rebased_by r h parts d is p.1 x.result x.publishes x.is
 
-  done_by : (r : Rebase) (before : LedgerFields) (o : Result Done NamedFault) (p : BasePublicationFields) → PublishesBase before r.moment r.without (Ok p) → (x : Result BasePublicationFields BaseFault)
-      → PublishesBase before r.moment r.without x → o ≡ rebased_as r x → (d : Done) × (o ≡ Ok d)
+  done_by : (r : Rebase) (before : LedgerFields) (o : Result Done NamedFault) (p : BasePublicationFields) → PublishesBase before r.moment (cut_without r.left) (Ok p) → (x : Result BasePublicationFields BaseFault)
+      → PublishesBase before r.moment (cut_without r.left) x → o ≡ rebased_as r x → (d : Done) × (o ≡ Ok d)
   done_by r before o p can (Ok q) publishes is = (base_done r q, is)
   done_by r before o p can (Err fault) publishes is =
-      absurd (let g : ◌≡◌ {A = Result BasePublicationFields BaseFault} (Ok p) (Err fault) = layers.one before r.moment r.without (Ok p) (Err fault) can publishes in cc)
+      absurd (let g : ◌≡◌ {A = Result BasePublicationFields BaseFault} (Ok p) (Err fault) = layers.one before r.moment (cut_without r.left) (Ok p) (Err fault) can publishes in cc)
 
   pub rebasable_law : (asked : Command) (files : Files) (r : Rebase) (h : History) (parts : List SealedFields) (o : Result Done NamedFault) → IsHistory h parts
-      → AsksToRebase asked r h parts files → IsRebasableWithout r.moment r.without h parts → Makes asked (held_by asked files) o → (d : Done) × (o ≡ Ok d)
+      → AsksToRebase asked r h parts files → IsRebasableCut r.moment (cut_without r.left) h parts → Makes asked (held_by asked files) o → (d : Done) × (o ≡ Ok d)
   rebasable_law asked files r h parts o is p may m =
       let x = made asked files r h parts o is p m in
-      let can = layers.complete h parts r.moment r.without is may in
+      let can = layers.complete h parts r.moment (cut_without r.left) is may in
       done_by r (ledger_of (releases_of h parts)) o can.0 can.1 x.result x.publishes x.is
 
 -- ---- asking the store of the base
@@ -107,39 +108,39 @@ pub record Keeping : Type 0 where
       → sightings x (seen (base_with keeps rs trailer ∷ [])) ≡ sightings x (seen rs)
   pub listing_kept : (keeps : Identity → Bool) (rs : List Release) (trailer : List ℕ) (x : Identity) → has (kept_by keeps rs) x ≡ true
       → is_listed (base_with keeps rs trailer ∷ []) x ≡ is_listed rs x
-  pub sightings_left : (without : List (List ℕ)) (rs : List Release) (x : Identity) → has_key without x.issuer ≡ false
-      → sightings x (seen (releases_without without rs)) ≡ sightings x (seen rs)
-  pub listing_left : (without : List (List ℕ)) (rs : List Release) (x : Identity) → has_key without x.issuer ≡ false → is_listed (releases_without without rs) x ≡ is_listed rs x
-  pub left_kept : (moment : ℕ) (without : List (List ℕ)) (rs : List Release) (x : Identity) → has_key without x.issuer ≡ false
-      → has (kept_by (is_lasting_by moment (releases_without without rs)) (releases_without without rs)) x ≡ has (kept_by (is_lasting_by moment rs) rs) x
+  pub sightings_left : (cut : Cut) (rs : List Release) (x : Identity) → is_kept cut x ≡ true
+      → sightings x (seen (releases_cut cut rs)) ≡ sightings x (seen rs)
+  pub listing_left : (cut : Cut) (rs : List Release) (x : Identity) → is_kept cut x ≡ true → is_listed (releases_cut cut rs) x ≡ is_listed rs x
+  pub left_kept : (moment : ℕ) (cut : Cut) (rs : List Release) (x : Identity) → is_kept cut x ≡ true
+      → has (kept_by (is_lasting_by moment (releases_cut cut rs)) (releases_cut cut rs)) x ≡ has (kept_by (is_lasting_by moment rs) rs) x
   pub asked : (command : Command) (files : Files) (q : Query) (h : History) (parts : List SealedFields) (o : Result Done NamedFault)
       → IsHistory h parts → AsksTruth command q h parts files → Makes command (held_by command files) o → o ≡ Ok (truth_done h parts q)
 
 module _ (keeping : Keeping) where
-  pub kept_law : (h : History) (parts : List SealedFields) (moment : ℕ) (without : List (List ℕ)) (s : SealedFields) (q : Query) → IsKept moment (releases_of h parts) q.id
-      → has_key without q.id.issuer ≡ false → (sightings q.id (seen (releases_of (base_of h parts moment without) (s ∷ []))) ≡ sightings q.id (seen (releases_of h parts)))
-      × (truth_line (base_of h parts moment without) (s ∷ []) q ≡ truth_line h parts q)
-  kept_law h parts moment without s q kept other =
-      let rest : List Release = releases_without without (releases_of h parts) in
+  pub kept_law : (h : History) (parts : List SealedFields) (moment : ℕ) (cut : Cut) (s : SealedFields) (q : Query) → IsKept moment (releases_of h parts) q.id
+      → is_kept cut q.id ≡ true → (sightings q.id (seen (releases_of (base_of h parts moment cut) (s ∷ []))) ≡ sightings q.id (seen (releases_of h parts)))
+      × (truth_line (base_of h parts moment cut) (s ∷ []) q ≡ truth_line h parts q)
+  kept_law h parts moment cut s q kept other =
+      let rest : List Release = releases_cut cut (releases_of h parts) in
       let keeps = is_lasting_by moment rest in
-      let stays : has (kept_by keeps rest) q.id ≡ true = keeping.left_kept moment without (releases_of h parts) q.id other ∙ kept in (
-        keeping.sightings_kept keeps rest s.trailer q.id stays ∙ keeping.sightings_left without (releases_of h parts) q.id other,
-        ap (λ (b : Bool). line (verdict_word (if b then Revoked else Good))) (keeping.listing_kept keeps rest s.trailer q.id stays ∙ keeping.listing_left without (releases_of h parts) q.id other),
+      let stays : has (kept_by keeps rest) q.id ≡ true = keeping.left_kept moment cut (releases_of h parts) q.id other ∙ kept in (
+        keeping.sightings_kept keeps rest s.trailer q.id stays ∙ keeping.sightings_left cut (releases_of h parts) q.id other,
+        ap (λ (b : Bool). line (verdict_word (if b then Revoked else Good))) (keeping.listing_kept keeps rest s.trailer q.id stays ∙ keeping.listing_left cut (releases_of h parts) q.id other),
       )
 
-  pub base_asked : (command : Command) (files : Files) (q : Query) (h : History) (parts : List SealedFields) (moment : ℕ) (without : List (List ℕ)) (s : SealedFields)
-      (o : Result Done NamedFault) → IsHistory (base_of h parts moment without) (s ∷ []) → AsksTheBase command q h parts moment without s files
+  pub base_asked : (command : Command) (files : Files) (q : Query) (h : History) (parts : List SealedFields) (moment : ℕ) (cut : Cut) (s : SealedFields)
+      (o : Result Done NamedFault) → IsHistory (base_of h parts moment cut) (s ∷ []) → AsksTheBase command q h parts moment cut s files
       → Makes command (held_by command files) o → o ≡ Ok (truth_done h parts q)
-  base_asked command files q h parts moment without s o is a m =
-      let k = kept_law h parts moment without s q a.1 a.2 in
-      let again : AsksTruth command q (base_of h parts moment without) (s ∷ []) files = (
+  base_asked command files q h parts moment cut s o is a m =
+      let k = kept_law h parts moment cut s q a.1 a.2 in
+      let again : AsksTruth command q (base_of h parts moment cut) (s ∷ []) files = (
         a.0,
         omega arith,
         a.3,
         a.4,
         λ t among. subst (λ (ts : List Sighting). Among ts t) (sym k.0) (a.5 t among),
       ) in
-      keeping.asked command files q (base_of h parts moment without) (s ∷ []) o is again m ∙ ap (λ (text : List ℕ). Ok (only text)) k.1
+      keeping.asked command files q (base_of h parts moment cut) (s ∷ []) o is again m ∙ ap (λ (text : List ℕ). Ok (only text)) k.1
 
 -- ---- asking for what a base leaves out
 

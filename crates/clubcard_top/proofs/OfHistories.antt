@@ -22,14 +22,15 @@ use Rattle.line_core.specs.Lines.{line}
 use Rattle.command_core.specs.ReplyFields.{Done, NamedFault}
 use Rattle.command_core.specs.Commands.{only, verdict_word}
 use Rattle.command_core.specs.Commands.{rehearsed, Makes}
-use Rattle.command_core.specs.Rebasings.{base_done}
+use Rattle.command_core.specs.Rebasings.{cut_without, base_done}
 use Rattle.command_core.specs.Replies.{held_by}
 use Rattle.clubcard_top.specs.Calls.{Call, Found, Prints}
 use Rattle.clubcard_top.specs.Endings.{Succeeds, GivesDone, MustSucceed, Ends}
+use Rattle.place_core.specs.Cuts.{Cut}
 use Rattle.clubcard_top.specs.Headline.{AsksTruth, Continues, done_by, Stored, AsksToContinue, AsksToRehearse}
 use Rattle.clubcard_top.specs.Headline.{AsksToStore, truth_line, truth_done}
 use Rattle.clubcard_top.specs.Headline.{AsksCertTruth, cert_truth_line}
-use Rattle.clubcard_top.specs.Headline.{AsksToRebase, BeginsAnew, IsRebasableWithout, base_of, AsksTheBase, AsksOfLeftOut, Brings}
+use Rattle.clubcard_top.specs.Headline.{AsksToRebase, BeginsAnew, IsRebasableCut, base_of, AsksTheBase, AsksOfLeftOut, Brings}
 use Rattle.clubcard_top.specs.Promises.{Histories}
 use Rattle.command_core.proofs.Results.{ok_same}
 use Rattle.clubcard_top.proofs.Promised.{answers, sure}
@@ -60,13 +61,13 @@ module _ (call : Call) where
     pub rebases : (files : Files) (r : Rebase) (h : History) (parts : List SealedFields) (d : Done)
         → IsHistory h parts → AsksToRebase call.asked r h parts files
         → Makes call.asked (held_by call.asked files) (Ok d)
-        → (made : BasePublicationFields) × BeginsAnew h parts r.moment r.without made × (d ≡ base_done r made)
+        → (made : BasePublicationFields) × BeginsAnew h parts r.moment (cut_without r.left) made × (d ≡ base_done r made)
     pub rebasable : (files : Files) (r : Rebase) (h : History) (parts : List SealedFields)
         (o : Result Done NamedFault) → IsHistory h parts → AsksToRebase call.asked r h parts files
-        → IsRebasableWithout r.moment r.without h parts → Makes call.asked (held_by call.asked files) o → (d : Done) × (o ≡ Ok d)
+        → IsRebasableCut r.moment (cut_without r.left) h parts → Makes call.asked (held_by call.asked files) o → (d : Done) × (o ≡ Ok d)
     pub keeps : (files : Files) (q : StoreQuery) (h : History) (parts : List SealedFields) (moment : ℕ)
-        (without : List (List ℕ)) (s : SealedFields) (o : Result Done NamedFault)
-        → IsHistory (base_of h parts moment without) (s ∷ []) → AsksTheBase call.asked q h parts moment without s files
+        (cut : Cut) (s : SealedFields) (o : Result Done NamedFault)
+        → IsHistory (base_of h parts moment cut) (s ∷ []) → AsksTheBase call.asked q h parts moment cut s files
         → Makes call.asked (held_by call.asked files) o → o ≡ Ok (truth_done h parts q)
     pub leaves : (files : Files) (q : StoreQuery) (h : History) (parts : List SealedFields)
         (o : Result Done NamedFault) → IsHistory h parts → AsksOfLeftOut call.asked q h parts files
@@ -108,14 +109,14 @@ module _ (call : Call) where
 
     rebased_clause : (r : Rebase) (h : History) (parts : List SealedFields)
         → IsHistory h parts → Found call (AsksToRebase call.asked r h parts) → Succeeds call
-        → (made : BasePublicationFields) × BeginsAnew h parts r.moment r.without made × GivesDone call (base_done r made)
+        → (made : BasePublicationFields) × BeginsAnew h parts r.moment (cut_without r.left) made × GivesDone call (base_done r made)
     rebased_clause r h parts is_history (files, told, p) zero =
         let a = came files told zero in
         let l = laws.rebases files r h parts a.0 is_history p a.1 in
         (l.0, l.1, subst (GivesDone call) l.2 a.2)
 
     rebasable : (r : Rebase) (h : History) (parts : List SealedFields) → IsHistory h parts
-        → Found call (AsksToRebase call.asked r h parts) → IsRebasableWithout r.moment r.without h parts → MustSucceed call
+        → Found call (AsksToRebase call.asked r h parts) → IsRebasableCut r.moment (cut_without r.left) h parts → MustSucceed call
     rebasable r h parts is_history (files, told, p) may quiet =
         sure call ends files told (λ none. let g : commands.Rebase r ≡ commands.Usage = sym p.0 ∙ none in cc)
         (λ o m. laws.rebasable files r h parts o is_history p may m) quiet
@@ -137,11 +138,11 @@ module _ (call : Call) where
         → Found call (AsksTruth call.asked q h parts) → Succeeds call → Prints call (truth_line h parts q)
     truth_clause q h parts is_history (files, told, p) = prints files told (truth_done h parts q) (λ o m. laws.asks files q h parts o is_history p m)
 
-    kept_clause : (q : StoreQuery) (h : History) (parts : List SealedFields) (moment : ℕ) (without : List (List ℕ))
-        (s : SealedFields) → IsHistory (base_of h parts moment without) (s ∷ [])
-        → Found call (AsksTheBase call.asked q h parts moment without s) → Succeeds call → Prints call (truth_line h parts q)
-    kept_clause q h parts moment without s is_history (files, told, p) =
-        prints files told (truth_done h parts q) (λ o m. laws.keeps files q h parts moment without s o is_history p m)
+    kept_clause : (q : StoreQuery) (h : History) (parts : List SealedFields) (moment : ℕ) (cut : Cut)
+        (s : SealedFields) → IsHistory (base_of h parts moment cut) (s ∷ [])
+        → Found call (AsksTheBase call.asked q h parts moment cut s) → Succeeds call → Prints call (truth_line h parts q)
+    kept_clause q h parts moment cut s is_history (files, told, p) =
+        prints files told (truth_done h parts q) (λ o m. laws.keeps files q h parts moment cut s o is_history p m)
 
     left_out_clause : (q : StoreQuery) (h : History) (parts : List SealedFields) → IsHistory h parts
         → Found call (AsksOfLeftOut call.asked q h parts) → Succeeds call → Prints call (line (verdict_word NotEnrolled))

@@ -23,7 +23,8 @@ use Rattle.part_text.specs.SealedFields.{SealedFields}
 use Rattle.universe_core.specs.Formats.{dated}
 use Rattle.universe_core.specs.Jobs.{facts_of}
 use Rattle.universe_core.specs.Ledgers.{no_ledger}
-use Rattle.universe_core.specs.Rebases.{ledger_without, issuers_in, is_lasting, rebased_groups}
+use Rattle.place_core.specs.Cuts.{Cut}
+use Rattle.universe_core.specs.Rebases.{ledger_cut, issuers_in, is_lasting, rebased_groups}
 use Rattle.universe_core.specs.Step.{refusal, groups_after}
 use Rattle.store_core.specs.declared.chain.Refusal.{Refusal}
 use Rattle.store_core.specs.Chain.{refusal_of}
@@ -39,7 +40,7 @@ use Rattle.word_core.proofs.Asked.{AreApart, names_apart}
 use Rattle.word_core.specs.declared.command.Command.TheVariants as commands
 use Rattle.word_core.specs.declared.command.{Query.Query, QueryCert.QueryCert, Snapshot.Snapshot, Delta.Delta}
 use Rattle.word_core.specs.declared.command.{Rebase.Rebase, Start.Start, Install.Install, Rehearse.Rehearse, Audit.Audit, Sample.Sample}
-use Rattle.word_core.specs.declared.command.{Cut.Cut, Place.Place}
+use Rattle.word_core.specs.declared.command.{Cut.Cut as JobCut, Place.Place}
 use Rattle.input_core.specs.declared.certificates.Certificate.{Certificate}
 use Rattle.input_core.specs.declared.fault.FileFault.{FileFault}
 use Rattle.input_core.specs.declared.fault.FileFault.TheVariants as faults
@@ -56,7 +57,7 @@ use Rattle.command_core.specs.declared.lengthening.Source.{Source}
 use Rattle.command_core.specs.declared.lengthening.Source.TheVariants as sources
 use Rattle.command_core.specs.Longer.{head_in, entries_by, room_for, entries_of, longer_done, longer_makes}
 use Rattle.command_core.specs.Cuts.{cut_done}
-use Rattle.command_core.specs.Rebasings.{base_done, rebased_as, MakesBase, MakesRebase}
+use Rattle.command_core.specs.Rebasings.{cut_without, base_done, rebased_as, MakesBase, MakesRebase}
 use Rattle.command_core.specs.Replies.{done, held_under, held_by}
 use Rattle.command_core.specs.Runs.{with_outputs}
 use Rattle.clubcard_top.specs.Calls.{Call, Reads, NoFault}
@@ -156,8 +157,8 @@ rebase_ok r (Ok before) d m = (before, refl, m)
 rebase_ok r (Err e) d m = absurd (not_ok d e (sym m))
 
 based_ok : (r : Rebase) (before : LedgerFields) (x : Result BasePublicationFields BaseFault) (d : Done)
-    → PublishesBase before r.moment r.without x → Ok d ≡ rebased_as r x
-    → (p : BasePublicationFields) × PublishesBase before r.moment r.without (Ok p) × (d ≡ base_done r p)
+    → PublishesBase before r.moment (cut_without r.left) x → Ok d ≡ rebased_as r x
+    → (p : BasePublicationFields) × PublishesBase before r.moment (cut_without r.left) (Ok p) × (d ≡ base_done r p)
 based_ok r before (Ok p) d is h = (p, is, ok_same {E = NamedFault} d (base_done r p) h)
 based_ok r before (Err fault) d is h =
     absurd (not_ok d (record { name = r.ledger; fault = of_rebasing fault }) (sym h))
@@ -201,9 +202,9 @@ Publishable = (before : LedgerFields) (job : JobFields) → refusal limits.PUBLI
     → (made : Publication) × Publishes before job (Ok made)
 
 abbrev pub Rebasable : Type 0
-Rebasable = (before : LedgerFields) (moment : ℕ) (without : List (List ℕ)) → length (issuers_in (ledger_without without before).parts) ≤ MAX_ISSUERS
-    → HaveBlocks dated (rebased_groups (is_lasting moment) (ledger_without without before))
-    → (made : BasePublicationFields) × PublishesBase before moment without (Ok made)
+Rebasable = (before : LedgerFields) (moment : ℕ) (cut : Cut) → length (issuers_in (ledger_cut cut before).parts) ≤ MAX_ISSUERS
+    → HaveBlocks dated (rebased_groups (is_lasting moment) (ledger_cut cut before))
+    → (made : BasePublicationFields) × PublishesBase before moment cut (Ok made)
 
 -- ---- each command
 
@@ -336,7 +337,7 @@ module _ (call : Call) where
         )
 
     pub rebase : (r : Rebase) → (did : Did call (commands.Rebase r)) → (before : LedgerFields) × (made : BasePublicationFields)
-        × Reads call r.ledger ledger_in before × PublishesBase before r.moment r.without (Ok made) × GivesDone call (base_done r made)
+        × Reads call r.ledger ledger_in before × PublishesBase before r.moment (cut_without r.left) (Ok made) × GivesDone call (base_done r made)
     rebase r did =
         let c = came (commands.Rebase r) did in
         let k = rebase_ok r (input r.ledger ledger_in (get did.files r.ledger)) c.d c.makes in
@@ -397,7 +398,7 @@ module _ (call : Call) where
           same_done c.d (longer_done source job names one.0 two.0) (ok_same {E = NamedFault} c.d (longer_done source job names one.0 two.0) two.2) c.given,
         )
 
-    pub cut : (k : Cut) → (did : Did call (commands.Cut k)) → (job : JobContents) × Reads call k.job head_in job × GivesDone call (cut_done k.by k.pieces job)
+    pub cut : (k : JobCut) → (did : Did call (commands.Cut k)) → (job : JobContents) × Reads call k.job head_in job × GivesDone call (cut_done k.by k.pieces job)
     cut k did =
         let c = came (commands.Cut k) did in
         let s = after_ok (input k.job head_in (get did.files k.job)) (cut_after k) c.d c.makes in
@@ -463,7 +464,7 @@ module _ (call : Call) where
         (d, one command (held_by command files) o (Ok d) x (law o x)))
         quiet
 
-    pub cut_complete : (k : Cut) (job : JobContents) → call.asked ≡ commands.Cut k → Reads call k.job head_in job → NoFault call → Succeeds call ⊎ WantedMemory call
+    pub cut_complete : (k : JobCut) (job : JobContents) → call.asked ≡ commands.Cut k → Reads call k.job head_in job → NoFault call → Succeeds call ⊎ WantedMemory call
     cut_complete k job asked (bytes, (files, told, held), is) quiet =
         let job_is = read_in files told k.job head_in job (bytes, (files, told, held), is) in
         sure_of (commands.Cut k) files (cut_done k.by k.pieces job) told asked (λ none. cc)
@@ -498,10 +499,10 @@ module _ (call : Call) where
         quiet
 
     pub rebase_complete : Rebasable → (r : Rebase) (before : LedgerFields) → call.asked ≡ commands.Rebase r
-        → Reads call r.ledger ledger_in before → length (issuers_in (ledger_without r.without before).parts) ≤ MAX_ISSUERS
-        → HaveBlocks dated (rebased_groups (is_lasting r.moment) (ledger_without r.without before)) → NoFault call → Succeeds call ⊎ WantedMemory call
+        → Reads call r.ledger ledger_in before → length (issuers_in (ledger_cut (cut_without r.left) before).parts) ≤ MAX_ISSUERS
+        → HaveBlocks dated (rebased_groups (is_lasting r.moment) (ledger_cut (cut_without r.left) before)) → NoFault call → Succeeds call ⊎ WantedMemory call
     rebase_complete rebasable r before asked (bytes, (files, told, held), is) few have quiet =
-        let made = rebasable before r.moment r.without few have in
+        let made = rebasable before r.moment (cut_without r.left) few have in
         let ledger_is = read_in files told r.ledger ledger_in before (bytes, (files, told, held), is) in
         let d = base_done r made.0 in
         sure_of (commands.Rebase r) files d told asked

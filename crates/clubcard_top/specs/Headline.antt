@@ -20,11 +20,12 @@ use Rattle.job_core.specs.JobLayout.{job_of}
 use Rattle.ident_core.specs.Among.{Among}
 use Rattle.universe_core.specs.Formats.{in_format}
 use Rattle.universe_core.specs.Jobs.{Entry, is_enrolled, facts_of}
-use Rattle.ident_core.specs.Sets.{has, has_key}
+use Rattle.ident_core.specs.Sets.{has}
 use Rattle.universe_core.specs.History.{Release, past_of, seen, sightings}
 use Rattle.universe_core.specs.Counting.{counts}
 use Rattle.universe_core.specs.Ledgers.{ledger_of}
-use Rattle.history_core.specs.Bases.{kept_by, releases_without, is_lasting_by, newest_epoch}
+use Rattle.place_core.specs.Cuts.{Cut, is_kept}
+use Rattle.history_core.specs.Bases.{kept_by, releases_cut, is_lasting_by, newest_epoch}
 use Rattle.publication_core.specs.Formats.{current}
 use Rattle.publication_core.specs.Histories.{IsAdmissible, IsRebasable, History, of_jobs, rebased, members, with_job, chain}
 use Rattle.publication_core.specs.Histories.{IsHistory, releases_of, LeavesOut}
@@ -84,24 +85,24 @@ pub record Continues (h : History) (parts : List SealedFields) (job : JobFields)
 abbrev pub AsksToRebase : Command → Rebase → History → List SealedFields → Files → Type 0
 AsksToRebase asked r h parts files = (asked ≡ commands.Rebase r) × (1 ≤ members h) × HoldsLedger files r.ledger h parts
 
--- the history that its base at the moment, without these issuers, begins, with no job behind it yet
-abbrev pub base_of : History → List SealedFields → ℕ → List (List ℕ) → History
-base_of h parts moment without = rebased h parts moment without []
+-- the history that the base of what a cut keeps of it at the moment begins, with no job behind it yet
+abbrev pub base_of : History → List SealedFields → ℕ → Cut → History
+base_of h parts moment cut = rebased h parts moment cut []
 
--- a base without these issuers may stand for the history at the moment
-abbrev pub IsRebasableWithout : ℕ → List (List ℕ) → History → List SealedFields → Type 0
-IsRebasableWithout moment without h parts = IsRebasable moment (releases_without without (releases_of h parts))
+-- a base may stand at the moment for what a cut keeps of the history
+abbrev pub IsRebasableCut : ℕ → Cut → History → List SealedFields → Type 0
+IsRebasableCut moment cut h parts = IsRebasable moment (releases_cut cut (releases_of h parts))
 
--- This begins a chain anew: a base without these issuers may stand for the history at the moment, this is its part and
--- its ledger, and the report is of the epoch of the history's newest member and of the counts of the base.
+-- This begins a chain anew: a base may stand at the moment for what a cut keeps of the history, this is its part and its
+-- ledger, and the report is of the epoch of the history's newest member and of the counts of the base.
 pub record BeginsAnew
-    (h : History) (parts : List SealedFields) (moment : ℕ) (without : List (List ℕ)) (made : BasePublicationFields)
+    (h : History) (parts : List SealedFields) (moment : ℕ) (cut : Cut) (made : BasePublicationFields)
     : Type 0 where
-  pub rebasable : IsRebasableWithout moment without h parts
-  pub is_history : IsHistory (base_of h parts moment without) (made.sealed ∷ [])
-  pub ledger : made.ledger ≡ ledger_of (releases_of (base_of h parts moment without) (made.sealed ∷ []))
+  pub rebasable : IsRebasableCut moment cut h parts
+  pub is_history : IsHistory (base_of h parts moment cut) (made.sealed ∷ [])
+  pub ledger : made.ledger ≡ ledger_of (releases_of (base_of h parts moment cut) (made.sealed ∷ []))
   pub epoch : made.sealed.part.head.epoch ≡ newest_epoch 0 (releases_of h parts)
-  pub counts : made.counts ≡ base_counts moment without (releases_of h parts)
+  pub counts : made.counts ≡ base_counts moment cut (releases_of h parts)
 
 -- ---- stores
 
@@ -155,12 +156,11 @@ truth_done h parts q = only (truth_line h parts q)
 abbrev pub IsKept : ℕ → List Release → Identity → Type 0
 IsKept moment rs x = has (kept_by (is_lasting_by moment rs) rs) x ≡ true
 
--- The command asks the store of this part alone, that of a history's base without some issuers, about a certificate of
--- another issuer that the base keeps, with sightings of the history's accepted entries alone.
-abbrev pub AsksTheBase : Command → StoreQuery → History → List SealedFields → ℕ → List (List ℕ) → SealedFields → Files
-    → Type 0
-AsksTheBase asked q h parts moment without s files =
-    (asked ≡ commands.Query q) × IsKept moment (releases_of h parts) q.id × (has_key without q.id.issuer ≡ false)
+-- The command asks the store of this part alone, that of the base of what a cut keeps of a history, about a certificate
+-- that it keeps, with sightings of the history's accepted entries alone.
+abbrev pub AsksTheBase : Command → StoreQuery → History → List SealedFields → ℕ → Cut → SealedFields → Files → Type 0
+AsksTheBase asked q h parts moment cut s files =
+    (asked ≡ commands.Query q) × IsKept moment (releases_of h parts) q.id × (is_kept cut q.id ≡ true)
     × (get files q.store ≡ Some (store_bytes (s ∷ []))) × (1 ≤ length q.sightings)
     × ((t : Sighting) → Among q.sightings t → Among (sightings q.id (seen (releases_of h parts))) t)
 

@@ -13,7 +13,8 @@ use Rattle.ledger_core.specs.LedgerFields.{LedgerFields}
 use Rattle.universe_core.specs.Formats.{dated, in_format}
 use Rattle.universe_core.specs.Jobs.{Entry, facts_of}
 use Rattle.universe_core.specs.Ledgers.{no_ledger}
-use Rattle.universe_core.specs.Rebases.{ledger_without, issuers_in, is_lasting, rebased_groups}
+use Rattle.place_core.specs.Cuts.{Cut}
+use Rattle.universe_core.specs.Rebases.{ledger_cut, issuers_in, is_lasting, rebased_groups}
 use Rattle.universe_core.specs.Step.{refusal as refusal_behind, groups_after}
 use Rattle.ident_core.specs.declared.bounds.TheConstants.{MAX_ISSUERS}
 use Rattle.ident_core.specs.Among.{Among}
@@ -30,7 +31,7 @@ use Rattle.word_core.specs.declared.command.Command.TheVariants as commands
 use Rattle.word_core.specs.declared.command.{Query.Query as StoreQuery, QueryCert.QueryCert, Snapshot.Snapshot}
 use Rattle.word_core.specs.declared.command.{Delta.Delta, Rebase.Rebase, Start.Start, Install.Install}
 use Rattle.word_core.specs.declared.command.{Rehearse.Rehearse, Audit.Audit, Sample.Sample}
-use Rattle.word_core.specs.declared.command.{Gather.Gather, Merge.Merge, Cut.Cut, Place.Place}
+use Rattle.word_core.specs.declared.command.{Gather.Gather, Merge.Merge, Cut.Cut as JobCut, Place.Place}
 use Rattle.word_core.specs.Names.{inputs_of, outputs_of}
 use Rattle.line_core.specs.Lines.{line, audit_line}
 use Rattle.input_core.specs.declared.certificates.Certificate.{Certificate}
@@ -46,7 +47,7 @@ use Rattle.command_core.specs.Commands.{rehearsed, sample_done, place_done}
 use Rattle.command_core.specs.declared.lengthening.Source.TheVariants as sources
 use Rattle.command_core.specs.Longer.{head_in, page_entries, piece_entries, longer_done}
 use Rattle.command_core.specs.Cuts.{cut_done}
-use Rattle.command_core.specs.Rebasings.{base_done}
+use Rattle.command_core.specs.Rebasings.{cut_without, base_done}
 use Rattle.command_core.specs.Replies.{usage, read_fault, refusal, done, IsReply}
 use Rattle.command_core.specs.Runs.{KeepsAllBut}
 use Rattle.clubcard_top.specs.Calls.{Call, Found, FilesAreTold, Reads, Writes, ChangesNoFile, Prints, NoFault}
@@ -55,7 +56,7 @@ use Rattle.clubcard_top.specs.Endings.{GivesDone, MustSucceed, MustGive}
 use Rattle.command_core.specs.Audits.{AreWithinLimits, IsAudited}
 use Rattle.clubcard_top.specs.Successes.{ReadsPart, ReadsEntries, ReadsJobs, SaysTheTruth}
 use Rattle.clubcard_top.specs.Headline.{AsksToContinue, AsksToStore, AsksTruth, AsksCertTruth, AsksToRehearse}
-use Rattle.clubcard_top.specs.Headline.{AsksToRebase, IsRebasableWithout, AsksTheBase, AsksOfLeftOut, Brings}
+use Rattle.clubcard_top.specs.Headline.{AsksToRebase, IsRebasableCut, AsksTheBase, AsksOfLeftOut, Brings}
 use Rattle.clubcard_top.specs.Headline.{base_of, done_by, truth_line, cert_truth_line}
 use Rattle.clubcard_top.specs.Headline.{Continues, BeginsAnew, Stored, IsRehearsed}
 use Rattle.clubcard_top.specs.Refusals.{Comes, Refused}
@@ -100,16 +101,17 @@ pub record Successes (call : Call) : Type 0 where
       → Reads call d.ledger ledger_in before → Reads call d.job job_in job
       → refusal_behind limits.PUBLISHED before job ≡ None → HaveBlocks current (groups_after before (facts_of job))
       → MustSucceed call
-  -- `rebase` and `rebase-without`: the ledger of LEDGER, without what has expired at MOMENT and without the issuers of
-  -- ISSUER .., begins a chain anew; and where its parts have few enough other issuers and each of these has a block, the
-  -- call must succeed
+  -- `rebase`, `rebase-without` and `split`: the ledger of LEDGER, without what has expired at MOMENT and without the
+  -- issuers of ISSUER .., or with what PLACE of COUNT keeps, begins a chain anew; and where its parts have few enough
+  -- issuers that stay and each of these has a block, the call must succeed
   pub rebase : (r : Rebase) → Did call (commands.Rebase r)
       → (before : LedgerFields) × (made : BasePublicationFields) × Reads call r.ledger ledger_in before
-      × PublishesBase before r.moment r.without (Ok made) × GivesDone call (base_done r made)
+      × PublishesBase before r.moment (cut_without r.left) (Ok made) × GivesDone call (base_done r made)
   pub rebase_complete : (r : Rebase) (before : LedgerFields) → call.asked ≡ commands.Rebase r
       → Reads call r.ledger ledger_in before
-      → length (issuers_in (ledger_without r.without before).parts) ≤ MAX_ISSUERS
-      → HaveBlocks dated (rebased_groups (is_lasting r.moment) (ledger_without r.without before)) → MustSucceed call
+      → length (issuers_in (ledger_cut (cut_without r.left) before).parts) ≤ MAX_ISSUERS
+      → HaveBlocks dated (rebased_groups (is_lasting r.moment) (ledger_cut (cut_without r.left) before))
+      → MustSucceed call
   -- the part of PART, which is a snapshot, begins a store
   pub start : (t : Start) → Did call (commands.Start t)
       → (s : SealedFields) × ReadsPart call t.part s × (s.part.head.kind ≡ kinds.Snapshot)
@@ -146,9 +148,9 @@ pub record Successes (call : Call) : Type 0 where
       → ReadsEntries call (piece_entries head.epoch) m.pieces entries
       → length head.entries + length entries ≤ limits.PUBLISHED.entries → MustSucceed call
   -- the pieces of the raw job of JOB at as many places as there are names; and where JOB is read, the call must succeed
-  pub cut : (c : Cut) → Did call (commands.Cut c)
+  pub cut : (c : JobCut) → Did call (commands.Cut c)
       → (job : JobContents) × Reads call c.job head_in job × GivesDone call (cut_done c.by c.pieces job)
-  pub cut_complete : (c : Cut) (job : JobContents)
+  pub cut_complete : (c : JobCut) (job : JobContents)
       → call.asked ≡ commands.Cut c → Reads call c.job head_in job → MustSucceed call
   -- the jobs are admitted in order, and of each entry that they accept the parts of STORE say the truth: so they do of
   -- each certificate of the jobs' history, whoever built them; and where the files are read, the jobs together are
@@ -175,12 +177,14 @@ pub record Histories (call : Call) : Type 0 where
   pub admitted : (h : History) (parts : List SealedFields) (job : JobFields) → IsHistory h parts
       → Found call (AsksToContinue call.asked h parts job)
       → IsAdmissible (releases_of h parts) (in_format current job) → MustSucceed call
-  -- `rebase` and `rebase-without`
+  -- `rebase`, `rebase-without` and `split`
   pub rebased : (r : Rebase) (h : History) (parts : List SealedFields) → IsHistory h parts
       → Found call (AsksToRebase call.asked r h parts) → Succeeds call
-      → (made : BasePublicationFields) × BeginsAnew h parts r.moment r.without made × GivesDone call (base_done r made)
+      → (made : BasePublicationFields) × BeginsAnew h parts r.moment (cut_without r.left) made
+      × GivesDone call (base_done r made)
   pub rebasable : (r : Rebase) (h : History) (parts : List SealedFields) → IsHistory h parts
-      → Found call (AsksToRebase call.asked r h parts) → IsRebasableWithout r.moment r.without h parts → MustSucceed call
+      → Found call (AsksToRebase call.asked r h parts) → IsRebasableCut r.moment (cut_without r.left) h parts
+      → MustSucceed call
   -- `start` and `install`
   pub stored : (h : History) (parts : List SealedFields) (s : SealedFields) → IsHistory h (parts ++ s ∷ [])
       → Found call (AsksToStore call.asked parts s) → Succeeds call
@@ -194,9 +198,9 @@ pub record Histories (call : Call) : Type 0 where
       → Found call (AsksTruth call.asked q h parts) → MustSucceed call
   -- `query` of the store that the base of a history begins: of what has not expired and is of no issuer that is left
   -- out, it says what the history tells
-  pub kept : (q : StoreQuery) (h : History) (parts : List SealedFields) (moment : ℕ) (without : List (List ℕ))
-      (s : SealedFields) → IsHistory (base_of h parts moment without) (s ∷ [])
-      → Found call (AsksTheBase call.asked q h parts moment without s) → Succeeds call
+  pub kept : (q : StoreQuery) (h : History) (parts : List SealedFields) (moment : ℕ) (cut : Cut)
+      (s : SealedFields) → IsHistory (base_of h parts moment cut) (s ∷ [])
+      → Found call (AsksTheBase call.asked q h parts moment cut s) → Succeeds call
       → Prints call (truth_line h parts q)
   -- of an issuer that is left out, and that no job enrolls since, the store says that it isn't enrolled wherever it
   -- covers

@@ -1,6 +1,6 @@
 //! What follows for every command over the files of a history, with no call.
 
-ghost use Rattle.std.specs.Prelude.{◌≡◌, ◌≤◌, false, ℕ, List, [], ◌∷◌, ◌++◌, length, None, Result, Ok};
+ghost use Rattle.std.specs.Prelude.{◌≡◌, ◌≤◌, true, ℕ, List, [], ◌∷◌, ◌++◌, length, None, Result, Ok};
 ghost use Rattle.ident_core.specs.declared.identity.Identity.{Identity};
 ghost use Rattle.ident_core.specs.declared.range.Sighting.{Sighting};
 ghost use Rattle.outside_core.specs.Files.{Files};
@@ -11,12 +11,12 @@ ghost use Rattle.ledger_core.specs.LedgerFields.{LedgerFields};
 ghost use Rattle.card_core.specs.declared.verdict.Verdict.TheVariants.{NotEnrolled};
 ghost use Rattle.line_core.specs.Lines.{line};
 ghost use Rattle.ident_core.specs.Among.{Among};
-ghost use Rattle.ident_core.specs.Sets.{has_key};
 ghost use Rattle.ident_core.specs.declared.bounds.TheConstants.{MAX_ISSUERS};
 ghost use Rattle.job_core.specs.declared.bounds.TheConstants.Limits.{PUBLISHED};
 ghost use Rattle.universe_core.specs.Jobs.{Entry, facts_of};
 ghost use Rattle.universe_core.specs.Formats.{dated, in_format};
-ghost use Rattle.universe_core.specs.Rebases.{ledger_without, issuers_in, is_lasting, rebased_groups};
+ghost use Rattle.place_core.specs.Cuts.{Cut, is_kept};
+ghost use Rattle.universe_core.specs.Rebases.{ledger_cut, issuers_in, is_lasting, rebased_groups};
 ghost use Rattle.universe_core.specs.Step.{refusal, groups_after};
 ghost use Rattle.universe_core.specs.History.{seen, sightings};
 ghost use Rattle.publication_core.specs.Formats.{current};
@@ -30,13 +30,13 @@ ghost use Rattle.word_core.specs.declared.command.{Rehearse.Rehearse};
 ghost use Rattle.command_core.specs.ReplyFields.{Done, NamedFault};
 ghost use Rattle.command_core.specs.Commands.{Makes, only, query_done, rehearsed, verdict_word};
 ghost use Rattle.command_core.specs.Replies.{held_by};
-ghost use Rattle.command_core.specs.Rebasings.{base_done};
+ghost use Rattle.command_core.specs.Rebasings.{cut_without, base_done};
 ghost use Rattle.clubcard_top.specs.Headline.{AsksToContinue, Continues, done_by, AsksToStore, Stored, AsksTruth, truth_done};
 ghost use Rattle.clubcard_top.specs.Headline.{AsksCertTruth, cert_truth_line, AsksToRehearse, IsRehearsed};
-ghost use Rattle.clubcard_top.specs.Headline.{AsksToRebase, BeginsAnew, IsRebasableWithout, base_of, IsKept, AsksTheBase, truth_line};
+ghost use Rattle.clubcard_top.specs.Headline.{AsksToRebase, BeginsAnew, IsRebasableCut, base_of, IsKept, AsksTheBase, truth_line};
 ghost use Rattle.clubcard_top.specs.Headline.{AsksStore, AsksOfLeftOut, Brings};
 
-use history_core::{base_stands_for_its_history, issuers_are_left_out};
+use history_core::{base_stands_for_its_history, releases_are_cut};
 use publication_core::{
     bases_are_published, histories_are_published, issuers_that_are_left_out_come_back,
     ledgers_are_read_back, one_thing_comes_of_a_rebase, parts_are_chains, publications_are_unique,
@@ -99,29 +99,30 @@ pub fn histories_are_made()
     part_codec::a_text_is_read_back();
 }
 
-/// What comes of `rebase` and `rebase-without`, and of `query` after it. A history that is rebased has a base, whose part
-/// and ledger are written; each history for which a base may stand is rebased, and behind any ledger, what can be rebased
-/// is. Of an identity that has not expired and is of no issuer that is left out the base keeps the sightings, and what the
-/// history tells (`kept`): so the store of the base, asked with accepted sightings of the history, answers as that of the
-/// history does (`asked`). Of an issuer that is left out the store says that it isn't enrolled wherever it covers, until
-/// a job enrolls it (`left_out`); and the first that does accepts each of its entries that it covers (`comes_back`).
+/// What comes of `rebase`, `rebase-without` and `split`, and of `query` after it. A history that is rebased has a base,
+/// whose part and ledger are written; each history for which a base may stand is rebased, and behind any ledger, what
+/// can be rebased is. Of an identity that has not expired and isn't left out the base keeps the sightings, and what the
+/// history tells (`kept`): so the store of the base, asked with accepted sightings of the history, answers as that of
+/// the history does (`asked`). Of an issuer that is left out the store says that it isn't enrolled wherever it covers,
+/// until a job enrolls it (`left_out`); and the first that does accepts each of its entries that it covers
+/// (`comes_back`).
 pub fn bases_are_made()
     ensures rebased { (command : Command) (files : Files) (r : Rebase)
         (h : History) (parts : List SealedFields) (d : Done)
         → IsHistory h parts → AsksToRebase command r h parts files
         → Makes command (held_by command files) (Ok d)
-        → (made : BasePublicationFields) × BeginsAnew h parts r.moment r.without made × (d ≡ base_done r made) }
+        → (made : BasePublicationFields) × BeginsAnew h parts r.moment (cut_without r.left) made × (d ≡ base_done r made) }
     ensures rebasable { (command : Command) (files : Files) (r : Rebase)
         (h : History) (parts : List SealedFields) (o : Result Done NamedFault)
-        → IsHistory h parts → AsksToRebase command r h parts files → IsRebasableWithout r.moment r.without h parts
+        → IsHistory h parts → AsksToRebase command r h parts files → IsRebasableCut r.moment (cut_without r.left) h parts
         → Makes command (held_by command files) o → (d : Done) × (o ≡ Ok d) }
-    ensures kept { (h : History) (parts : List SealedFields) (moment : ℕ) (without : List (List ℕ)) (s : SealedFields)
-        (q : StoreQuery) → IsKept moment (releases_of h parts) q.id → has_key without q.id.issuer ≡ false
-        → (sightings q.id (seen (releases_of (base_of h parts moment without) (s ∷ []))) ≡ sightings q.id (seen (releases_of h parts)))
-        × (truth_line (base_of h parts moment without) (s ∷ []) q ≡ truth_line h parts q) }
+    ensures kept { (h : History) (parts : List SealedFields) (moment : ℕ) (cut : Cut) (s : SealedFields)
+        (q : StoreQuery) → IsKept moment (releases_of h parts) q.id → is_kept cut q.id ≡ true
+        → (sightings q.id (seen (releases_of (base_of h parts moment cut) (s ∷ []))) ≡ sightings q.id (seen (releases_of h parts)))
+        × (truth_line (base_of h parts moment cut) (s ∷ []) q ≡ truth_line h parts q) }
     ensures asked { (command : Command) (files : Files) (q : StoreQuery)
-        (h : History) (parts : List SealedFields) (moment : ℕ) (without : List (List ℕ)) (s : SealedFields) (o : Result Done NamedFault)
-        → IsHistory (base_of h parts moment without) (s ∷ []) → AsksTheBase command q h parts moment without s files
+        (h : History) (parts : List SealedFields) (moment : ℕ) (cut : Cut) (s : SealedFields) (o : Result Done NamedFault)
+        → IsHistory (base_of h parts moment cut) (s ∷ []) → AsksTheBase command q h parts moment cut s files
         → Makes command (held_by command files) o → o ≡ Ok (truth_done h parts q) }
     ensures left_out { (command : Command) (files : Files) (q : StoreQuery)
         (h : History) (parts : List SealedFields) (o : Result Done NamedFault)
@@ -130,16 +131,16 @@ pub fn bases_are_made()
     ensures comes_back { (h : History) (parts : List SealedFields) (job : JobFields) (s : SealedFields) (e : Entry)
         → IsHistory h parts → LeavesOut h e.id.issuer → Brings job e
         → Among (seen (releases_of (with_job h (in_format current job)) (parts ++ s ∷ []))) e }
-    ensures publishable { (before : LedgerFields) (moment : ℕ) (without : List (List ℕ))
-        → length (issuers_in (ledger_without without before).parts) ≤ MAX_ISSUERS
-        → HaveBlocks dated (rebased_groups (is_lasting moment) (ledger_without without before))
-        → (made : BasePublicationFields) × PublishesBase before moment without (Ok made) }
+    ensures publishable { (before : LedgerFields) (moment : ℕ) (cut : Cut)
+        → length (issuers_in (ledger_cut cut before).parts) ≤ MAX_ISSUERS
+        → HaveBlocks dated (rebased_groups (is_lasting moment) (ledger_cut cut before))
+        → (made : BasePublicationFields) × PublishesBase before moment cut (Ok made) }
 {
     bases_are_published();
     one_thing_comes_of_a_rebase();
     issuers_that_are_left_out_come_back();
     ledgers_are_read_back();
     base_stands_for_its_history();
-    issuers_are_left_out();
+    releases_are_cut();
     histories_are_made();
 }

@@ -7,7 +7,8 @@ use Rattle.job_core.specs.JobText.{JobContents, spelling}
 use Rattle.gather_core.specs.Raw.{raw_job}
 use Rattle.place_core.specs.declared.place.By.{By}
 use Rattle.piece_core.specs.declared.cutting.Pieces.{Pieces}
-use Rattle.piece_core.specs.Cuts.{at_place, cut_contents}
+use Rattle.place_core.specs.Cuts.{at_place}
+use Rattle.piece_core.specs.Cuts.{cut_contents}
 use Rattle.piece_core.specs.Texts.{text_at}
 use Rattle.piece_core.specs.Pieces.{AreOf}
 use Rattle.input_core.specs.declared.input.InputFault.TheVariants as reads

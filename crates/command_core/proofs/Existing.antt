@@ -12,6 +12,7 @@ use Rattle.job_core.specs.declared.bounds.TheConstants.Limits.{PUBLISHED}
 use Rattle.job_core.specs.JobFields.{CrlMeaning, JobFields}
 use Rattle.job_core.specs.JobFacts.{FitsFields, FitsPublishing, IsWithinLimits}
 use Rattle.job_core.specs.JobLayout.{job_of}
+use Rattle.place_core.specs.Cuts.{Cut}
 use Rattle.ledger_core.specs.LedgerFields.{LedgerFields}
 use Rattle.universe_core.specs.Formats.{in_format}
 use Rattle.universe_core.specs.Ledgers.{no_ledger, ledger_of}
@@ -41,7 +42,7 @@ use Rattle.command_core.specs.Commands.{named, input, published_as, rehearsed}
 use Rattle.command_core.specs.Commands.{MakesPart, MakesSnapshot, MakesDelta, MakesRehearsal, Makes}
 use Rattle.command_core.specs.Commands.{AreJobs}
 use Rattle.command_core.specs.Audits.{audit_jobs, audited_as, MakesAudit}
-use Rattle.command_core.specs.Rebasings.{rebased_as, MakesRebase}
+use Rattle.command_core.specs.Rebasings.{cut_without, rebased_as, MakesRebase}
 use Rattle.command_core.specs.Steps.{RehearsesOn}
 use Rattle.command_core.specs.Replies.{usage, reply_of, IsReplyOver, IsOctets, AreOctets}
 use Rattle.command_core.proofs.AuditsMade.{AreAccepted, audit_jobs_are}
@@ -57,7 +58,7 @@ job_value name job (Err e) h = absurd (not_ok job (record { name = name; fault =
 -- fits, and one that is published goes on with the history.
 pub record Existence : Type 0 where
   pub something : (ledger : LedgerFields) (job : JobFields) → (o : Result PublicationFields PublishFault) × Publishes ledger job o
-  pub rebases : (ledger : LedgerFields) (moment : ℕ) (without : List (List ℕ)) → (o : Result BasePublicationFields BaseFault) × PublishesBase ledger moment without o
+  pub rebases : (ledger : LedgerFields) (moment : ℕ) (cut : Cut) → (o : Result BasePublicationFields BaseFault) × PublishesBase ledger moment cut o
   pub fits : (limits : Limits) (bytes : List ℕ) (job : JobFields) → IsBytes bytes → limits.ranges ≤ 1024 → job_of limits bytes ≡ Ok job → FitsFields job
   pub within : (limits : Limits) (bytes : List ℕ) (job : JobFields) → IsBytes bytes → job_of limits bytes ≡ Ok job → IsWithinLimits limits job
   pub next : (h : History) (parts : List SealedFields) (job : JobFields) (p : PublicationFields) → IsHistory h parts → FitsPublishing job → IsWithinLimits PUBLISHED job
@@ -94,7 +95,7 @@ module _ (layers : Existence) where
 
   rebase_made : (b : Rebase) (l : Result LedgerFields NamedFault) → (o : Result Done NamedFault) × MakesRebase b l o
   rebase_made b (Ok l) =
-      let r = layers.rebases l b.moment b.without in
+      let r = layers.rebases l b.moment (cut_without b.left) in
       (rebased_as b r.0, record { result = r.0; publishes = r.1; is = refl })
   rebase_made b (Err e) = (Err e, refl)
 

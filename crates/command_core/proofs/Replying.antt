@@ -13,6 +13,7 @@ use Rattle.job_core.specs.declared.bounds.TheConstants.Limits.{PUBLISHED}
 use Rattle.job_core.specs.JobText.{JobContents}
 use Rattle.job_core.specs.JobFields.{JobFields}
 use Rattle.job_core.specs.JobFacts.{FitsFields, IsWithinLimits}
+use Rattle.place_core.specs.Cuts.{Cut}
 use Rattle.ledger_core.specs.LedgerFields.{LedgerFields}
 use Rattle.universe_core.specs.Ledgers.{no_ledger}
 use Rattle.publication_core.specs.declared.fault.PublishFault.{PublishFault}
@@ -24,7 +25,7 @@ use Rattle.publication_core.specs.Rebasing.{BasePublicationFields, PublishesBase
 use Rattle.word_core.specs.declared.command.Command.{Command}
 use Rattle.word_core.specs.declared.command.Command.TheVariants as commands
 use Rattle.word_core.specs.declared.command.{Query.Query as StoreQuery, Snapshot.Snapshot, Delta.Delta, Rebase.Rebase, Start.Start}
-use Rattle.word_core.specs.declared.command.{Install.Install, Cut.Cut}
+use Rattle.word_core.specs.declared.command.{Install.Install, Cut.Cut as JobCut}
 use Rattle.word_core.specs.Names.{inputs_of}
 use Rattle.command_core.specs.declared.answer.Answer.{Answer}
 use Rattle.input_core.specs.declared.fault.FileFault.{FileFault}
@@ -42,7 +43,7 @@ use Rattle.command_core.specs.declared.lengthening.Source.TheVariants as sources
 use Rattle.command_core.specs.Longer.{head_in}
 use Rattle.command_core.specs.Cuts.{cut_done}
 use Rattle.command_core.specs.Commands.{MakesPart, MakesSnapshot, MakesDelta, MakesRehearsal, Makes}
-use Rattle.command_core.specs.Rebasings.{base_done, MakesBase, MakesRebase}
+use Rattle.command_core.specs.Rebasings.{cut_without, base_done, MakesBase, MakesRebase}
 use Rattle.command_core.specs.Replies.{done, refusal, reply_of, SaysWhich, IsReply}
 use Rattle.command_core.specs.Answering.{reply_fields}
 use Rattle.command_core.proofs.Fronts.{ahead, these, some_reads}
@@ -171,7 +172,7 @@ module _ (told : Option Files) (failed : Option (List ℕ) → Type 0) (r : Resu
       made (commands.Show name) told failed (these (given ∷ [])) (Ok (show_done (view x))) r (read, λ i. refl) (inl (none_failed failed name faults.Unread x blamed))
       (sym (ap (λ (y : Result (SealedFields × ℕ) FileFault). named name y >>= (λ z. Ok (show_done z))) gives)) is
 
-  pub cut_made : (c : Cut) (j : JobContents) → IsInput told failed c.job head_in (λ (k : JobContents). k) (Ok j) → IfOk r (λ a. reply_fields a ≡ done (cut_done c.by c.pieces j))
+  pub cut_made : (c : JobCut) (j : JobContents) → IsInput told failed c.job head_in (λ (k : JobContents). k) (Ok j) → IfOk r (λ a. reply_fields a ≡ done (cut_done c.by c.pieces j))
       → IfOk r (λ a. IsReply (commands.Cut c) told failed (reply_fields a))
   cut_made c j (given, read, gives, blamed) is =
       made (commands.Cut c) told failed (these (given ∷ [])) (Ok (cut_done c.by c.pieces j)) r (read, λ i. refl) (inl (none_failed failed c.job faults.Unread j blamed))
@@ -217,16 +218,16 @@ module _ (told : Option Files) (failed : Option (List ℕ) → Type 0) (r : Resu
 abbrev NotPublished : LedgerFields → JobFields → PublishFault → Type 0
 NotPublished before j fault = ◌≢◌ {A = Result PublicationFields PublishFault} (Err fault) (Err publish.NoMemory) → Publishes before j (Err fault)
 
-abbrev pub NotRebased : LedgerFields → ℕ → List (List ℕ) → BaseFault → Type 0
-NotRebased before moment without fault =
-    ◌≢◌ {A = Result BasePublicationFields BaseFault} (Err fault) (Err bases.NoMemory) → PublishesBase before moment without (Err fault)
+abbrev pub NotRebased : LedgerFields → ℕ → Cut → BaseFault → Type 0
+NotRebased before moment cut fault =
+    ◌≢◌ {A = Result BasePublicationFields BaseFault} (Err fault) (Err bases.NoMemory) → PublishesBase before moment cut (Err fault)
 
 publishes_err : (before : LedgerFields) (j : JobFields) (fault : PublishFault) → NotPublished before j fault → (of_publishing fault ≡ faults.NoMemory → ⊥) → Publishes before j (Err fault)
 publishes_err before j fault h refute = h (λ e. refute (ap of_publishing (err_same {A = PublicationFields} fault publish.NoMemory e)))
 
-base_err : (before : LedgerFields) (moment : ℕ) (without : List (List ℕ)) (fault : BaseFault) → NotRebased before moment without fault
-    → (of_rebasing fault ≡ faults.NoMemory → ⊥) → PublishesBase before moment without (Err fault)
-base_err before moment without fault h refute = h (λ e. refute (ap of_rebasing (err_same {A = BasePublicationFields} fault bases.NoMemory e)))
+base_err : (before : LedgerFields) (moment : ℕ) (cut : Cut) (fault : BaseFault) → NotRebased before moment cut fault
+    → (of_rebasing fault ≡ faults.NoMemory → ⊥) → PublishesBase before moment cut (Err fault)
+base_err before moment cut fault h refute = h (λ e. refute (ap of_rebasing (err_same {A = BasePublicationFields} fault bases.NoMemory e)))
 
 module _ (told : Option Files) (failed : Option (List ℕ) → Type 0) (r : Result Answer NoMemory) where
   pub snapshot_not : {B : Type 0} (s : Snapshot) (view : B → JobFields) (x : B) (fault : PublishFault) → IsInput told failed s.job job_in view (Ok x)
@@ -245,18 +246,18 @@ module _ (told : Option Files) (failed : Option (List ℕ) → Type 0) (r : Resu
   rebase_step b l given o gives m = subst (λ (x : Result LedgerFields FileFault). MakesRebase b (named b.ledger x) o) (sym gives) m
 
   pub rebase_made : {B : Type 0} (b : Rebase) (view : B → LedgerFields) (x : B) (p : BasePublicationFields) → IsInput told failed b.ledger ledger_in view (Ok x)
-      → PublishesBase (view x) b.moment b.without (Ok p) → IfOk r (λ a. reply_fields a ≡ done (base_done b p)) → IfOk r (λ a. IsReply (commands.Rebase b) told failed (reply_fields a))
+      → PublishesBase (view x) b.moment (cut_without b.left) (Ok p) → IfOk r (λ a. reply_fields a ≡ done (base_done b p)) → IfOk r (λ a. IsReply (commands.Rebase b) told failed (reply_fields a))
   rebase_made b view x p (given, read, gives, blamed) publishes is =
       made (commands.Rebase b) told failed (these (given ∷ [])) (Ok (base_done b p)) r (read, λ i. refl) (inl (none_failed failed b.ledger faults.Unread x blamed))
       (rebase_step b (view x) given (Ok (base_done b p)) gives (record { result = Ok p; publishes = publishes; is = refl })) is
 
   pub rebase_not : {B : Type 0} (b : Rebase) (view : B → LedgerFields) (x : B) (fault : BaseFault) → IsInput told failed b.ledger ledger_in view (Ok x)
-      → NotRebased (view x) b.moment b.without fault → (of_rebasing fault ≡ faults.NoMemory → IsErr r) → IfOk r (λ a. reply_fields a ≡ refusal b.ledger (of_rebasing fault))
+      → NotRebased (view x) b.moment (cut_without b.left) fault → (of_rebasing fault ≡ faults.NoMemory → IsErr r) → IfOk r (λ a. reply_fields a ≡ refusal b.ledger (of_rebasing fault))
       → IfOk r (λ a. IsReply (commands.Rebase b) told failed (reply_fields a))
   rebase_not b view x fault (given, read, gives, blamed) publishes memory is =
       made_unless (commands.Rebase b) told failed (these (given ∷ [])) b.ledger (of_rebasing fault) r (read, λ i. refl) (inl (none_failed failed b.ledger faults.Unread x blamed))
       (λ refute. rebase_step b (view x) given (Err (record { name = b.ledger; fault = of_rebasing fault })) gives
-      (record { result = Err fault; publishes = base_err (view x) b.moment b.without fault publishes refute; is = refl })) memory is
+      (record { result = Err fault; publishes = base_err (view x) b.moment (cut_without b.left) fault publishes refute; is = refl })) memory is
 
 -- ---- commands of two inputs
 

@@ -4,6 +4,7 @@ use Rattle.input_core.specs.Queries.{Query}
 use Rattle.card_core.specs.PartFields.{PartFields}
 use Rattle.part_text.specs.SealedFields.{SealedFields}
 use Rattle.job_core.specs.JobFields.{JobFields}
+use Rattle.place_core.specs.Cuts.{Cut}
 use Rattle.ledger_core.specs.LedgerFields.{LedgerFields}
 use Rattle.universe_core.specs.Formats.{JobIn, in_format}
 use Rattle.universe_core.specs.Ledgers.{ledger_of}
@@ -26,7 +27,7 @@ use Rattle.input_core.specs.Inputs.{Inputs, rest_of}
 use Rattle.input_core.specs.Readings.{queries_in, job_in, ledger_in, store_in}
 use Rattle.command_core.specs.Commands.{input, published_as, MakesPart, MakesSnapshot, MakesDelta, IsFileRefused, MakesRehearsal, Makes}
 use Rattle.command_core.specs.Audits.{audit_jobs, audited_as, MakesAudit}
-use Rattle.command_core.specs.Rebasings.{rebased_as, MakesRebase}
+use Rattle.command_core.specs.Rebasings.{cut_without, rebased_as, MakesRebase}
 use Rattle.command_core.specs.Steps.{RehearsesOn}
 use Rattle.command_core.specs.Faults.{of_publishing}
 use Rattle.command_core.specs.Replies.{reply_of, IsReplyOver}
@@ -39,8 +40,8 @@ OnePublication = (ledger : LedgerFields) (job : JobFields) (a b : Result Publica
 
 -- One thing comes of a rebase behind a ledger.
 abbrev pub OneBase : Type 0
-OneBase = (ledger : LedgerFields) (moment : ℕ) (without : List (List ℕ)) (a b : Result BasePublicationFields BaseFault) → PublishesBase ledger moment without a
-    → PublishesBase ledger moment without b → a ≡ b
+OneBase = (ledger : LedgerFields) (moment : ℕ) (cut : Cut) (a b : Result BasePublicationFields BaseFault) → PublishesBase ledger moment cut a
+    → PublishesBase ledger moment cut b → a ≡ b
 
 -- What is published is unique, a job of a history is admissible behind those before it, and each admissible job is
 -- published.
@@ -156,7 +157,7 @@ module _ (publishing : Publishing) where
   -- ---- rebases
 
   rebase_unique : OneBase → (r : Rebase) (l : Result LedgerFields NamedFault) (a b : Result Done NamedFault) → MakesRebase r l a → MakesRebase r l b → a ≡ b
-  rebase_unique bases r (Ok l) a b x y = x.is ∙ ap (rebased_as r) (bases l r.moment r.without x.result y.result x.publishes y.publishes) ∙ sym y.is
+  rebase_unique bases r (Ok l) a b x y = x.is ∙ ap (rebased_as r) (bases l r.moment (cut_without r.left) x.result y.result x.publishes y.publishes) ∙ sym y.is
   rebase_unique bases r (Err e) a b x y = x ∙ sym y
 
   -- ---- commands

@@ -4,7 +4,8 @@ use Rattle.std.specs.declared.vec.Vec.{Vec}
 use Rattle.std.specs.Global.{Global}
 use Rattle.job_core.specs.JobText.{JobContents, spelling}
 use Rattle.place_core.specs.declared.place.By.{By}
-use Rattle.piece_core.specs.Cuts.{at_place, cut_contents}
+use Rattle.place_core.specs.Cuts.{at_place}
+use Rattle.piece_core.specs.Cuts.{cut_contents}
 use Rattle.line_core.specs.Lines.{cut_line}
 use Rattle.word_core.specs.declared.command.Cut.{Cut}
 use Rattle.command_core.specs.Outcomes.{◌>>=◌, input}

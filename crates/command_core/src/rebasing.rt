@@ -4,8 +4,9 @@ ghost use Rattle.std.specs.Prelude.{◌≡◌, IfOk};
 ghost use Rattle.outside_core.specs.Effects.{OnlyReads};
 ghost use Rattle.word_core.specs.declared.command.Command.{Command};
 ghost use Rattle.command_core.specs.Answering.{reply_fields};
-ghost use Rattle.command_core.specs.Rebasings.{base_line, base_done};
+ghost use Rattle.command_core.specs.Rebasings.{base_line, base_done, cut_without};
 ghost use Rattle.command_core.specs.Replies.{done, IsReply};
+ghost use Rattle.publication_core.specs.Leavings.{cut_of};
 ghost use Rattle.outside_core.specs.Reads.{WhichFailed};
 
 use crate::answer::Answer;
@@ -13,34 +14,50 @@ use crate::commands::refused;
 use crate::fault::unrebased;
 use crate::publishing::written;
 use input_core::ledger_in;
-use line_core::{Line, rebased as rebased_line, rebased_without as rebased_without_line};
-use octets_core::{Key32, NoMemory};
+use line_core::{
+    Base, Line, rebased as rebased_line, rebased_without as rebased_without_line,
+    split as split_line,
+};
+use octets_core::NoMemory;
 use outside_core::Depot;
-use publication_core::{BaseCounts, BasePublication, Gate, publish_base};
+use publication_core::{BaseCounts, BasePublication, Gate, Leaving, publish_base};
 use std::alloc::Global;
 use std::thread::Threads;
-use word_core::command::Rebase;
+use word_core::command::{Left, Rebase};
 
-/// The line of a base of this epoch, without these issuers.
-fn line_of(without: &[Key32], epoch: u64, counts: &BaseCounts) -> Line
-    ensures { result ≡ base_line without.now epoch counts.now }
+/// The line of a base of this epoch, without what is left out.
+fn line_of(left: &Left, epoch: u64, counts: &BaseCounts) -> Line
+    ensures { result ≡ base_line left.now epoch counts.now }
 {
-    match without {
-        [] => rebased_line(
-            epoch,
-            counts.issuers,
-            counts.universe,
-            counts.revoked,
-            counts.pruned,
-        ),
-        [_, ..] => rebased_without_line(
-            epoch,
-            counts.issuers,
-            counts.universe,
-            counts.revoked,
-            counts.pruned,
-            counts.left,
-        ),
+    let base = Base {
+        epoch,
+        issuers: counts.issuers,
+        universe: counts.universe,
+        revoked: counts.revoked,
+        pruned: counts.pruned,
+    };
+    match left {
+        Left::Issuers(issuers) => match issuers.as_slice() {
+            [] => rebased_line(&base),
+            [_, ..] => rebased_without_line(&base, counts.left),
+        },
+        Left::OtherPlaces { count, place, .. } => {
+            split_line(*place, count.get(), &base, counts.left)
+        }
+    }
+}
+
+/// What is left out, as it is asked of a ledger.
+fn leaving_of(left: &Left) -> Leaving<'_>
+    ensures { cut_of result ≡ cut_without left.now }
+{
+    match left {
+        Left::Issuers(issuers) => Leaving::Issuers(issuers.as_slice()),
+        Left::OtherPlaces { by, count, place } => Leaving::OtherPlaces {
+            by: *by,
+            count: *count,
+            place: *place,
+        },
     }
 }
 
@@ -55,7 +72,7 @@ fn rebased<'a, R: Threads + Sync>(
 {
     let sealed = publication.sealed();
     let epoch = sealed.part().head().epoch();
-    let line = line_of(rebase.without.as_slice(), epoch, publication.counts());
+    let line = line_of(&rebase.left, epoch, publication.counts());
     written(
         rt,
         alloc,
@@ -68,7 +85,7 @@ fn rebased<'a, R: Threads + Sync>(
     )
 }
 
-/// The answer of `rebase` and of `rebase-without`.
+/// The answer of `rebase`, `rebase-without` and `split`.
 pub fn answer_rebase<'a, R: Threads + Sync, G: Gate + Sync, D: Depot>(
     rt: &R,
     alloc: Global,
@@ -90,7 +107,7 @@ pub fn answer_rebase<'a, R: Threads + Sync, G: Gate + Sync, D: Depot>(
         gate,
         ledger,
         rebase.moment,
-        rebase.without.as_slice(),
+        &leaving_of(&rebase.left),
         rebase.workers.get(),
     ) {
         Ok(publication) => rebased(rt, alloc, rebase, &publication),

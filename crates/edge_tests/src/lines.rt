@@ -3,7 +3,9 @@
 use crl_core::Crl;
 use ident_core::{Identity, Range, Serial, Sighting, ranges_fit};
 use job_core::{Job, JobCrl, Limits, What};
-use line_core::{layout_line, limit_line, rebased, rebased_without, reported, seeds_line};
+use line_core::{
+    Base, layout_line, limit_line, rebased, rebased_without, reported, seeds_line, split,
+};
 use log_core::Entry;
 use octets_core::{Field, Key32, LayoutFault, Why};
 use outside_core::{MemorySink, write_all};
@@ -38,7 +40,8 @@ const REPORTS: &str = "\
     epoch 18446744073709551615 part 63 issuers 1 universe 2 revoked 3 unread 4 \
     uncovered 5 unenrolled 6 late 7 accepted 4294967295\n\
     rebase epoch 18446744073709551615 issuers 65535 universe 4 revoked 3 pruned 4194304\n\
-    rebase-without epoch 18446744073709551615 issuers 65535 universe 4 revoked 3 pruned 4194303 left 1024\n\
+    rebase-without epoch 18446744073709551615 issuers 65535 universe 4 revoked 3 pruned 4194304 left 1024\n\
+    split 65535 of 65536 epoch 18446744073709551615 issuers 65535 universe 4 revoked 3 pruned 4194304 left 4194303\n\
     seeds efefefefefefefefefefefefefefefefefefefefefefefefefefefefefefefef 1\n";
 
 #[test]
@@ -53,13 +56,18 @@ fn reports(rt: HostRuntime) -> Result<(), Fail> {
         late: 7,
         accepted: 4_294_967_295,
     };
+    let base = Base {
+        epoch: u64::MAX,
+        issuers: 65_535,
+        universe: 4,
+        revoked: 3,
+        pruned: 4_194_304,
+    };
     let mut sink = MemorySink::new(rt.alloc());
     write_all(&mut sink, reported(u64::MAX, 63, &counts).text())?;
-    write_all(&mut sink, rebased(u64::MAX, 65_535, 4, 3, 4_194_304).text())?;
-    write_all(
-        &mut sink,
-        rebased_without(u64::MAX, 65_535, 4, 3, 4_194_303, 1_024).text(),
-    )?;
+    write_all(&mut sink, rebased(&base).text())?;
+    write_all(&mut sink, rebased_without(&base, 1_024).text())?;
+    write_all(&mut sink, split(65_535, 65_536, &base, 4_194_303).text())?;
     write_all(&mut sink, seeds_line(&Key32::new([0xef; 32]), 1).text())?;
     assert_eq!(rt; sink.bytes(), REPORTS.as_bytes());
     Ok(())

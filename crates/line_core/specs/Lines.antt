@@ -33,6 +33,7 @@ use Rattle.gather_core.specs.Pages.{index_of}
 use Rattle.job_core.specs.declared.bounds.What.{What}
 use Rattle.job_core.specs.declared.bounds.What.TheVariants as what
 use Rattle.universe_core.specs.declared.counts.Counts.{Counts}
+use Rattle.line_core.specs.declared.line.Base.{Base}
 
 -- one line of words
 abbrev pub line : List ℕ → List ℕ
@@ -149,19 +150,26 @@ report_line epoch place c =
     ++ codes " unenrolled " ++ decimal c.unenrolled ++ codes " late " ++ decimal c.late
     ++ codes " accepted " ++ decimal c.accepted ++ 10 ∷ []
 
+-- epoch E issuers I universe U revoked R pruned N
+abbrev pub base_words : Base → List ℕ
+base_words b =
+    codes " epoch " ++ decimal b.epoch ++ codes " issuers " ++ decimal b.issuers
+    ++ codes " universe " ++ decimal b.universe ++ codes " revoked " ++ decimal b.revoked
+    ++ codes " pruned " ++ decimal b.pruned
+
 -- rebase epoch E issuers I universe U revoked R pruned N
-abbrev pub rebase_line : (epoch issuers universe revoked pruned : ℕ) → List ℕ
-rebase_line epoch issuers universe revoked pruned =
-    codes "rebase epoch " ++ decimal epoch ++ codes " issuers " ++ decimal issuers
-    ++ codes " universe " ++ decimal universe ++ codes " revoked " ++ decimal revoked
-    ++ codes " pruned " ++ decimal pruned ++ 10 ∷ []
+abbrev pub rebase_line : Base → List ℕ
+rebase_line base = codes "rebase" ++ base_words base ++ 10 ∷ []
 
 -- rebase-without epoch E issuers I universe U revoked R pruned N left M
-abbrev pub rebase_without_line : (epoch issuers universe revoked pruned left : ℕ) → List ℕ
-rebase_without_line epoch issuers universe revoked pruned left =
-    codes "rebase-without epoch " ++ decimal epoch ++ codes " issuers " ++ decimal issuers
-    ++ codes " universe " ++ decimal universe ++ codes " revoked " ++ decimal revoked
-    ++ codes " pruned " ++ decimal pruned ++ codes " left " ++ decimal left ++ 10 ∷ []
+abbrev pub rebase_without_line : (base : Base) (left : ℕ) → List ℕ
+rebase_without_line base left = codes "rebase-without" ++ base_words base ++ codes " left " ++ decimal left ++ 10 ∷ []
+
+-- split P of COUNT epoch E issuers I universe U revoked R pruned N left M
+abbrev pub split_line : (place count : ℕ) (base : Base) (left : ℕ) → List ℕ
+split_line place count base left =
+    codes "split " ++ decimal place ++ codes " of " ++ decimal count ++ base_words base
+    ++ codes " left " ++ decimal left ++ 10 ∷ []
 
 -- sample NUMBER entries COUNT revoked R bytes B
 abbrev pub sample_line : (number count revoked bytes : ℕ) → List ℕ

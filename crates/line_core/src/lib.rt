@@ -14,8 +14,8 @@ pub use about::{
 };
 pub use device::{device_line, full_line};
 pub use line::{
-    Line, audited, checked, cut, disagreement_line, gathered, merged, placed, rebased,
-    rebased_without, reported, sampled, seeds_line, stored, verdict_line,
+    Base, Line, audited, checked, cut, disagreement_line, gathered, merged, placed, rebased,
+    rebased_without, reported, sampled, seeds_line, split, stored, verdict_line,
 };
 pub use show::write_sealed;
 pub use status::Status;

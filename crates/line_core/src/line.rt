@@ -4,8 +4,8 @@ ghost use Rattle.std.specs.Prelude.{◌≡◌, ◌+◌, ◌*◌, ◌≤◌, [], 
 ghost use Rattle.hex.specs.Hex.{encode_lower};
 ghost use Rattle.part_text.specs.PartText.{width_of};
 ghost use Rattle.line_core.specs.Lines.{stage_words, approx_words, mixed_words, leaf_words, body_words, note_line, report_line};
-ghost use Rattle.line_core.specs.Lines.{store_line, rebase_line, rebase_without_line, sample_line, longer_line};
-ghost use Rattle.line_core.specs.Lines.{gather_line, merge_line, cut_line, place_line, audit_line};
+ghost use Rattle.line_core.specs.Lines.{store_line, base_words, rebase_line, rebase_without_line, split_line, sample_line};
+ghost use Rattle.line_core.specs.Lines.{longer_line, gather_line, merge_line, cut_line, place_line, audit_line};
 ghost use Rattle.line_core.specs.Lines.{disagreement_line, verdict_line};
 ghost use Rattle.line_core.specs.Lines.{head_line, range_line, block_line, shard_line, trailer_line};
 ghost use Rattle.line_core.specs.Lines.{seeds_line};
@@ -20,6 +20,19 @@ use universe_core::Counts;
 
 /// The most bytes of a line.
 const ROOM: usize = 320;
+
+/// What a line says of the base with which a chain begins anew.
+#[derive(Debug, Drop)]
+pub struct Base {
+    pub epoch: u64,
+    pub issuers: usize,
+    /// How many identities it has.
+    pub universe: usize,
+    /// How many of these are revoked.
+    pub revoked: usize,
+    /// How many are left out, since they have expired.
+    pub pruned: u32,
+}
 
 /// One line.
 #[derive(Drop)]
@@ -151,6 +164,18 @@ impl Line {
         }
     }
 
+    fn push_base(&mut self, base: &Base)
+        requires { length self.old + 143 ≤ 320 }
+        ensures value { self.new ≡ self.old ++ base_words base.now }
+        ensures len { length self.new ≤ length self.old + 143 }
+    {
+        self.push_count(b" epoch ", base.epoch);
+        self.push_count(b" issuers ", base.issuers as u64);
+        self.push_count(b" universe ", base.universe as u64);
+        self.push_count(b" revoked ", base.revoked as u64);
+        self.push_count(b" pruned ", base.pruned as u64);
+    }
+
     /// The line's text.
     pub fn text(&self) -> &[u8]
         ensures { result.now ≡ self.now }
@@ -205,36 +230,36 @@ pub fn stored(parts: usize, epoch: u64) -> Line
 }
 
 /// `rebase epoch E issuers I universe U revoked R pruned N`
-pub fn rebased(epoch: u64, issuers: usize, universe: usize, revoked: usize, pruned: u32) -> Line
-    ensures { result ≡ rebase_line epoch issuers universe revoked pruned }
+pub fn rebased(base: &Base) -> Line
+    ensures { result ≡ rebase_line base.now }
 {
     let mut line = Line::new();
-    line.push_count(b"rebase epoch ", epoch);
-    line.push_count(b" issuers ", issuers as u64);
-    line.push_count(b" universe ", universe as u64);
-    line.push_count(b" revoked ", revoked as u64);
-    line.push_count(b" pruned ", pruned as u64);
+    line.push(b"rebase");
+    line.push_base(base);
     line.push(b"\n");
     line
 }
 
 /// `rebase-without epoch E issuers I universe U revoked R pruned N left M`
-pub fn rebased_without(
-    epoch: u64,
-    issuers: usize,
-    universe: usize,
-    revoked: usize,
-    pruned: u32,
-    left: u32,
-) -> Line
-    ensures { result ≡ rebase_without_line epoch issuers universe revoked pruned left }
+pub fn rebased_without(base: &Base, left: u32) -> Line
+    ensures { result ≡ rebase_without_line base.now left }
 {
     let mut line = Line::new();
-    line.push_count(b"rebase-without epoch ", epoch);
-    line.push_count(b" issuers ", issuers as u64);
-    line.push_count(b" universe ", universe as u64);
-    line.push_count(b" revoked ", revoked as u64);
-    line.push_count(b" pruned ", pruned as u64);
+    line.push(b"rebase-without");
+    line.push_base(base);
+    line.push_count(b" left ", left as u64);
+    line.push(b"\n");
+    line
+}
+
+/// `split P of COUNT epoch E issuers I universe U revoked R pruned N left M`
+pub fn split(place: u32, count: u32, base: &Base, left: u32) -> Line
+    ensures { result ≡ split_line place count base.now left }
+{
+    let mut line = Line::new();
+    line.push_count(b"split ", place as u64);
+    line.push_count(b" of ", count as u64);
+    line.push_base(base);
     line.push_count(b" left ", left as u64);
     line.push(b"\n");
     line

@@ -53,9 +53,11 @@ const REBASED: &str = "rebase epoch 2 issuers 4 universe 40 revoked 4 pruned 0\n
 
 const WITHOUT: &str = "rebase-without epoch 2 issuers 4 universe 40 revoked 4 pruned 0 left 0\n";
 
+const SPLIT: &str = "split 0 of 1 epoch 2 issuers 4 universe 40 revoked 4 pruned 0 left 0\n";
+
 // Each command that builds parts, with W for the workers, of a job of four issuers and of the same job in the next epoch;
 // how many places are kept, two of each part; and what it prints. The issuer that is left out is none of the four.
-const COMMANDS: [(&str, u32, &str); 5] = [
+const COMMANDS: [(&str, u32, &str); 6] = [
     ("snapshot J P L W", 2, FIRST),
     ("delta K L D M W", 2, SECOND),
     ("rebase M 0 B N W", 2, REBASED),
@@ -64,6 +66,7 @@ const COMMANDS: [(&str, u32, &str); 5] = [
         2,
         WITHOUT,
     ),
+    ("split M 0 issuer 1 0 B N W", 2, SPLIT),
     ("rehearse Q W J K", 4, BOTH),
 ];
 

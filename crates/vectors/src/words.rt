@@ -5,8 +5,21 @@ use play_core::Files;
 use std::alloc::Global;
 use std::fmt::Write;
 use std::test::Fail;
-use word_core::command::Command;
+use word_core::command::{Command, Left, Rebase};
 use word_core::read_words;
+
+/// A command that begins a chain anew. Of a place's chain the moment is told, and the place by what it is.
+fn put_rebase(text: &mut String, rebase: &Rebase<'_>) -> Result<(), Fail> {
+    let moment = rebase.moment;
+    match &rebase.left {
+        Left::Issuers(_) => text.push_str("command")?,
+        Left::OtherPlaces { by, count, place } => {
+            let (by, count, place) = (*by, count.get(), *place);
+            write!(text, "split at {moment} by {by:?} place {place} of {count}")?;
+        }
+    }
+    Ok(())
+}
 
 /// `usage`, or a command. Of a query its certificate and its sightings are told, of a sample its number and its count,
 /// of a place by what it is, the certificate and the count.
@@ -30,6 +43,7 @@ fn put_command(alloc: Global, text: &mut String, command: &Command<'_>) -> Resul
             put_identity(alloc, text, &place.id)?;
             write!(text, " of {count}")?;
         }
+        Command::Rebase(rebase) => put_rebase(text, rebase)?,
         _ => text.push_str("command")?,
     }
     Ok(())

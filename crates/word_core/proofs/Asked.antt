@@ -10,10 +10,11 @@ use Rattle.octets_core.specs.Layout.{within}
 use Rattle.ident_core.specs.declared.bounds.TheConstants.{MAX_PARTS}
 use Rattle.word_core.specs.declared.command.{Audit.Audit, Command.Command}
 use Rattle.word_core.specs.declared.command.Command.TheVariants as commands
+use Rattle.word_core.specs.declared.command.Left.TheVariants as lefts
 use Rattle.word_core.specs.Names.{IsApart, HasFewJobs}
 use Rattle.word_core.specs.Words.{◌>>=◌, is_name, name_of, names_of, jobs_of, is_among, are_apart, asks, writes_of, asked_of, command_of}
 use Rattle.word_core.specs.Words.{inputs_of, outputs_of, query_of, query_cert_of, name_alone, snapshot_of, delta_of, rebase_of, rebase_without_of}
-use Rattle.word_core.specs.Words.{start_of, install_of, rehearse_of, sample_of, gather_of, merge_of, cut_of, audit_of, place_of}
+use Rattle.word_core.specs.Words.{split_of, start_of, install_of, rehearse_of, sample_of, gather_of, merge_of, cut_of, audit_of, place_of}
 
 -- ---- steps of reading
 
@@ -113,15 +114,16 @@ written : (P : Command → Type 0) → ((c : Command) → NoAudit c → P c) →
 written P p command words =
     passes P (bytes_eq command (codes "snapshot")) commands.Snapshot (snapshot_of words) _ p (λ x. tt)
     (passes P (bytes_eq command (codes "delta")) commands.Delta (delta_of words) _ p (λ x. tt)
-    (passes P (bytes_eq command (codes "rebase")) commands.Rebase (rebase_of words []) _ p (λ x. tt)
+    (passes P (bytes_eq command (codes "rebase")) commands.Rebase (rebase_of words (lefts.Issuers [])) _ p (λ x. tt)
     (passes P (bytes_eq command (codes "rebase-without")) commands.Rebase (rebase_without_of words) _ p (λ x. tt)
+    (passes P (bytes_eq command (codes "split")) commands.Rebase (split_of words) _ p (λ x. tt)
     (passes P (bytes_eq command (codes "start")) commands.Start (start_of words) _ p (λ x. tt)
     (passes P (bytes_eq command (codes "install")) commands.Install (install_of words) _ p (λ x. tt)
     (passes P (bytes_eq command (codes "sample")) commands.Sample (sample_of words) _ p (λ x. tt)
     (passes P (bytes_eq command (codes "gather")) commands.Gather (gather_of words) _ p (λ x. tt)
     (passes P (bytes_eq command (codes "merge")) commands.Merge (merge_of words) _ p (λ x. tt)
     (passes P (bytes_eq command (codes "cut")) commands.Cut (cut_of words) _ p (λ x. tt)
-    (p commands.Usage tt))))))))))
+    (p commands.Usage tt)))))))))))
 
 asked : (P : Command → Type 0) → ((c : Command) → NoAudit c → P c) → ((words : List (List ℕ)) → IfSome (audit_of words) (λ a. P (commands.Audit a)))
     → (command : List ℕ) (words : List (List ℕ)) → P (asked_of command words)

@@ -19,6 +19,8 @@ use Rattle.word_core.specs.declared.command.{Merge.Merge, Place.Place, Query.Que
 use Rattle.word_core.specs.declared.command.{QueryCert.QueryCert, Rebase.Rebase, Rehearse.Rehearse, Sample.Sample}
 use Rattle.word_core.specs.declared.command.{Snapshot.Snapshot, Start.Start}
 use Rattle.word_core.specs.declared.command.Command.TheVariants as commands
+use Rattle.word_core.specs.declared.command.Left.{Left}
+use Rattle.word_core.specs.declared.command.Left.TheVariants as lefts
 
 infixl 10 ◌>>=◌
 abbrev pub ◌>>=◌ : {A B : Type 0} → Option A → (A → Option B) → Option B
@@ -120,15 +122,15 @@ delta_of (job ∷ ledger ∷ part ∷ new_ledger ∷ workers ∷ []) = do
   Some (record { job = inputs.0; ledger = inputs.1; part = outputs.0; new_ledger = outputs.1; workers = n })
 delta_of words = None
 
--- LEDGER MOMENT PART NEWLEDGER WORKERS, of a chain without these issuers
-abbrev pub rebase_of : List (List ℕ) → List (List ℕ) → Option Rebase
-rebase_of (ledger ∷ moment ∷ part ∷ new_ledger ∷ workers ∷ []) without = do
+-- LEDGER MOMENT PART NEWLEDGER WORKERS, of a chain that leaves this out
+abbrev pub rebase_of : List (List ℕ) → Left → Option Rebase
+rebase_of (ledger ∷ moment ∷ part ∷ new_ledger ∷ workers ∷ []) left = do
   l ← name_of ledger
   m ← number_of moment
   outputs ← two_names_of part new_ledger
   n ← workers_of workers
-  Some (record { ledger = l; moment = m; part = outputs.0; new_ledger = outputs.1; workers = n; without = without })
-rebase_of words without = None
+  Some (record { ledger = l; moment = m; part = outputs.0; new_ledger = outputs.1; workers = n; left = left })
+rebase_of words left = None
 
 -- a key for each word
 abbrev pub keys_of : List (List ℕ) → Option (List (List ℕ))
@@ -146,7 +148,7 @@ without_of words = if within 1 MAX_WITHOUT (length words) then keys_of words els
 abbrev pub rebase_without_of : List (List ℕ) → Option Rebase
 rebase_without_of words = do
   without ← without_of (drop 5 words)
-  rebase_of (take 5 words) without
+  rebase_of (take 5 words) (lefts.Issuers without)
 
 -- PART STORE
 abbrev pub start_of : List (List ℕ) → Option Start
@@ -251,6 +253,21 @@ places_of word = do
   n ← number_of word
   place_count n
 
+-- a place among so many
+abbrev pub place_below : ℕ → List ℕ → Option ℕ
+place_below count word = do
+  p ← number_of word
+  if nat_lt p count then Some p else None
+
+-- LEDGER MOMENT BY COUNT PLACE PART NEWLEDGER WORKERS
+abbrev pub split_of : List (List ℕ) → Option Rebase
+split_of (ledger ∷ moment ∷ by ∷ count ∷ place ∷ others) = do
+  b ← by_of by
+  n ← places_of count
+  p ← place_below n place
+  rebase_of (ledger ∷ moment ∷ others) (lefts.OtherPlaces b n p)
+split_of words = None
+
 -- BY ISSUER SERIAL COUNT
 abbrev pub place_of : List (List ℕ) → Option Place
 place_of (by ∷ issuer ∷ serial ∷ count ∷ []) = do
@@ -271,8 +288,9 @@ abbrev pub writes_of : List ℕ → List (List ℕ) → Command
 writes_of command words =
     if bytes_eq command (codes "snapshot") then asks commands.Snapshot (snapshot_of words)
     else if bytes_eq command (codes "delta") then asks commands.Delta (delta_of words)
-    else if bytes_eq command (codes "rebase") then asks commands.Rebase (rebase_of words [])
+    else if bytes_eq command (codes "rebase") then asks commands.Rebase (rebase_of words (lefts.Issuers []))
     else if bytes_eq command (codes "rebase-without") then asks commands.Rebase (rebase_without_of words)
+    else if bytes_eq command (codes "split") then asks commands.Rebase (split_of words)
     else if bytes_eq command (codes "start") then asks commands.Start (start_of words)
     else if bytes_eq command (codes "install") then asks commands.Install (install_of words)
     else if bytes_eq command (codes "sample") then asks commands.Sample (sample_of words)

@@ -96,8 +96,21 @@ pub struct Delta<'a> {
     pub workers: Workers,
 }
 
-/// A chain to be begun anew from a ledger, without what has expired before a moment, in milliseconds, and without some
-/// issuers.
+/// What a chain that begins anew leaves out of its ledger.
+#[derive(Debug, Drop)]
+pub enum Left {
+    /// These issuers, if there are some, and their identities.
+    Issuers(Listed<Key32, 0, MAX_WITHOUT>),
+    /// What all places have but this one, which is below the count.
+    OtherPlaces {
+        by: By,
+        count: PlaceCount,
+        place: u32,
+    },
+}
+
+/// A chain to be begun anew from a ledger, without what has expired before a moment, in milliseconds, and without what
+/// else is left out.
 #[derive(Debug, Drop)]
 pub struct Rebase<'a> {
     pub ledger: FileName<'a>,
@@ -105,7 +118,7 @@ pub struct Rebase<'a> {
     pub part: FileName<'a>,
     pub new_ledger: FileName<'a>,
     pub workers: Workers,
-    pub without: Listed<Key32, 0, MAX_WITHOUT>,
+    pub left: Left,
 }
 
 /// A part that a store is begun with.
@@ -199,7 +212,8 @@ pub enum Command<'a> {
     Snapshot(Snapshot<'a>),
     /// To publish a job behind the part before: its part and its ledger.
     Delta(Delta<'a>),
-    /// To begin a chain anew from a ledger, without what has expired and some issuers: its part and its ledger.
+    /// To begin a chain anew from a ledger, without what has expired and what else is left out: its part and its
+    /// ledger.
     Rebase(Rebase<'a>),
     /// To begin a store with a part.
     Start(Start<'a>),

@@ -4,16 +4,17 @@ ghost use Rattle.std.specs.Prelude.{◌≡◌, ℕ, List, ◌∷◌, IfOk, IsOk,
 ghost use Rattle.word_core.specs.Words.{command_of, asked_of, writes_of, query_of, query_cert_of, name_alone};
 ghost use Rattle.word_core.specs.Words.{snapshot_of, delta_of, rebase_of, rebase_without_of, start_of, install_of};
 ghost use Rattle.word_core.specs.Words.{names_within, rehearse_of, audit_of, sample_of, gather_of, merge_of, cut_of};
-ghost use Rattle.word_core.specs.Words.{place_of};
+ghost use Rattle.word_core.specs.Words.{split_of, place_of};
+ghost use Rattle.word_core.specs.declared.command.Left.TheVariants as lefts;
 
 use crate::bounded::Listed;
 use crate::command::{
-    Audit, Command, Cut, Delta, FileName, Gather, Install, MAX_SIGHTINGS, MAX_WITHOUT, Merge,
+    Audit, Command, Cut, Delta, FileName, Gather, Install, Left, MAX_SIGHTINGS, MAX_WITHOUT, Merge,
     Place, Query, QueryCert, Rebase, Rehearse, Sample, Snapshot, Start,
 };
 use crate::words::{
-    by_word, count_word, key_word, number_word, places_word, read_keys, read_name, read_names,
-    read_pairs, read_two_names, serial_word, workers_word,
+    by_word, count_word, key_word, number_word, place_word, places_word, read_keys, read_name,
+    read_names, read_pairs, read_two_names, serial_word, workers_word,
 };
 use ident_core::Identity;
 use octets_core::{Key32, NoMemory};
@@ -111,15 +112,20 @@ fn read_delta(words: &[String]) -> Option<Delta<'_>>
     })
 }
 
-/// The chain begun anew without these issuers that words spell, if they spell one.
-fn read_rebase(words: &[String], without: Listed<Key32, 0, MAX_WITHOUT>) -> Option<Rebase<'_>>
-    ensures { result ≡ rebase_of (map string_bytes words.now) without }
+/// The chain begun anew, which leaves this out, that words spell, if they spell one.
+fn rebase_named<'a>(
+    ledger: &'a str,
+    moment: &str,
+    others: &'a [String],
+    left: Left,
+) -> Option<Rebase<'a>>
+    ensures { result ≡ rebase_of (ledger.now ∷ moment.now ∷ map string_bytes others.now) left }
 {
-    let [ledger, moment, part, new_ledger, workers] = words else {
+    let [part, new_ledger, workers] = others else {
         return None;
     };
-    let ledger = read_name(ledger.as_str())?;
-    let moment = number_word(moment.as_str())?;
+    let ledger = read_name(ledger)?;
+    let moment = number_word(moment)?;
     let (part, new_ledger) = read_two_names(part.as_str(), new_ledger.as_str())?;
     let workers = workers_word(workers.as_str())?;
     Some(Rebase {
@@ -128,8 +134,23 @@ fn read_rebase(words: &[String], without: Listed<Key32, 0, MAX_WITHOUT>) -> Opti
         part,
         new_ledger,
         workers,
-        without,
+        left,
     })
+}
+
+/// The chain begun anew without these issuers that words spell, if they spell one.
+fn read_rebase(words: &[String], without: Listed<Key32, 0, MAX_WITHOUT>) -> Option<Rebase<'_>>
+    ensures { result ≡ rebase_of (map string_bytes words.now) (lefts.Issuers without) }
+{
+    let [ledger, moment, others @ ..] = words else {
+        return None;
+    };
+    rebase_named(
+        ledger.as_str(),
+        moment.as_str(),
+        others,
+        Left::Issuers(without),
+    )
 }
 
 /// The chain begun anew, and the issuers that it leaves out, that words spell, if they spell both.
@@ -143,6 +164,24 @@ fn read_rebase_without(alloc: Global, words: &[String]) -> Result<Option<Rebase<
         return Ok(None);
     };
     Ok(read_rebase(&words[..5], Listed::new(without)))
+}
+
+/// The chain of one place, begun anew, that words spell, if they spell one.
+fn read_split(words: &[String]) -> Option<Rebase<'_>>
+    ensures { result ≡ split_of (map string_bytes words.now) }
+{
+    let [ledger, moment, by, count, place, others @ ..] = words else {
+        return None;
+    };
+    let by = by_word(by.as_str())?;
+    let count = places_word(count.as_str())?;
+    let place = place_word(place.as_str(), count)?;
+    rebase_named(
+        ledger.as_str(),
+        moment.as_str(),
+        others,
+        Left::OtherPlaces { by, count, place },
+    )
 }
 
 /// The beginning of a store that words spell, if they spell one.
@@ -354,6 +393,7 @@ fn read_writing<'a>(
             Command::Usage,
             Command::Rebase,
         )),
+        "split" => Ok(read_split(rest).map_or(Command::Usage, Command::Rebase)),
         "start" => Ok(read_start(rest).map_or(Command::Usage, Command::Start)),
         "install" => Ok(read_install(rest).map_or(Command::Usage, Command::Install)),
         "sample" => Ok(read_sample(rest).map_or(Command::Usage, Command::Sample)),

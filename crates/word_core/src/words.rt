@@ -6,7 +6,7 @@ ghost use Rattle.std.specs.Str.{bytes_eq};
 ghost use Rattle.std.specs.Char.{is_ascii_digit};
 ghost use Rattle.std.specs.Option.{option_map};
 ghost use Rattle.word_core.specs.Words.{name_of, names_of, two_names_of, pairs_of, key_word, keys_of, serial_of, number_of};
-ghost use Rattle.word_core.specs.Words.{workers_of, count_of, by_of, places_of, is_among, are_apart, is_name, is_plain};
+ghost use Rattle.word_core.specs.Words.{workers_of, count_of, by_of, places_of, place_below, is_among, are_apart, is_name, is_plain};
 
 use crate::bounded::{Count, SampleCount, Workers};
 use crate::command::FileName;
@@ -113,6 +113,18 @@ pub(crate) fn places_word(word: &str) -> Option<PlaceCount>
         return None;
     }
     PlaceCount::new(n as u32)
+}
+
+/// The place among so many that a word spells.
+pub(crate) fn place_word(word: &str, count: PlaceCount) -> Option<u32>
+    ensures { result ≡ place_below count word.now }
+{
+    let place = number_word(word)?;
+    if place < count.get() as u64 {
+        Some(place as u32)
+    } else {
+        None
+    }
 }
 
 /// The sightings that words spell, two words each.

@@ -12,15 +12,15 @@ returns c =
       begins = c.bases_are_published.ensures.history;
       ledger = c.bases_are_published.ensures.ledger;
       numbers = c.bases_are_published.ensures.numbers;
-      head = c.issuers_are_left_out.ensures.head;
+      head = c.releases_are_cut.ensures.head;
       complete = c.bases_are_published.ensures.complete;
     } in
     let keeping : Keeping = record {
       sightings_kept = c.base_stands_for_its_history.ensures.kept_sightings;
       listing_kept = c.base_stands_for_its_history.ensures.kept_listing;
-      sightings_left = c.issuers_are_left_out.ensures.sightings;
-      listing_left = c.issuers_are_left_out.ensures.listing;
-      left_kept = c.issuers_are_left_out.ensures.kept;
+      sightings_left = c.releases_are_cut.ensures.sightings;
+      listing_left = c.releases_are_cut.ensures.listing;
+      left_kept = c.releases_are_cut.ensures.kept;
       asked = c.histories_are_made.ensures.asked;
     } in
     let leaving : Leaving = record {
@@ -30,8 +30,8 @@ returns c =
     record {
       rebased = λ command files r h parts d is p m. rebased_law layers command files r h parts d is p m;
       rebasable = λ command files r h parts o is p may m. rebasable_law layers command files r h parts o is p may m;
-      kept = λ h parts moment without s q kept other. kept_law keeping h parts moment without s q kept other;
-      asked = λ command files q h parts moment without s o is a m. base_asked keeping command files q h parts moment without s o is a m;
+      kept = λ h parts moment cut s q kept other. kept_law keeping h parts moment cut s q kept other;
+      asked = λ command files q h parts moment cut s o is a m. base_asked keeping command files q h parts moment cut s o is a m;
       left_out = λ command files q h parts o is a m. left_out_law leaving command files q h parts o is a m;
       comes_back = λ h parts job s e is left b.
           c.issuers_that_are_left_out_come_back.ensures.come_back h parts (in_format current job) s e is left b.entry b.covered b.enrolled;

@@ -36,7 +36,7 @@ returns-clause-successes g c =
     succeeded.successes _ (c.histories_are_made.ensures.rehearsed _)
     c.run_words.ensures.ends (asked.words_apart (map string_bytes c.args.words.now)) (λ inputs a b x y. c.replies_are_unique.ensures.reply _ inputs a b x y) (λ command inputs a b x y. c.replies_are_unique.ensures.outcome command inputs a b x y)
     (λ before job none have. c.histories_are_made.ensures.publishable before job none have)
-    (λ before moment without few have. c.bases_are_made.ensures.publishable before moment without few have)
+    (λ before moment cut few have. c.bases_are_made.ensures.publishable before moment cut few have)
     (λ parts jobs agree. c.agreement_is_enough.ensures (map (λ (s : SealedFields). s.part) parts) jobs agree)
 
 pub returns-clause-histories : goal.returns-clause-histories
