@@ -4,5 +4,7 @@ pub mod Endings
 pub mod Made
 pub mod Promised
 pub mod Rehearsed
+pub mod Rooms
 pub mod Succeeded
 pub mod OfHistories
+pub mod OfPlaces

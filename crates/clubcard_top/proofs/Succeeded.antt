@@ -74,6 +74,7 @@ use Rattle.command_core.proofs.Results.{ok_same, not_ok, after_ok}
 use Rattle.command_core.proofs.Outputs.{names_of, keeps-written}
 use Rattle.command_core.proofs.Overs.{some_is}
 use Rattle.clubcard_top.proofs.Promised.{Unique, answers, given, sure}
+use Rattle.clubcard_top.proofs.Rooms.{HaveRoom, entries_few}
 
 -- ---- files after a write
 
@@ -385,7 +386,7 @@ module _ (call : Call) where
     pub longer : (c : Command) (source : Source) (head job : List ℕ) (names : List (List ℕ)) → (did : Did call c)
         → ((d : Done) → Makes c (held_by c did.files) (Ok d) → Ok d ≡ longer_makes source head job names (get did.files head) (held_under did.files names))
         → (j : JobContents) × (entries : List EntryText) × Reads call head head_in j × ReadsEntries call (entries_by source j.epoch) names entries
-        × GivesDone call (longer_done source job names j entries)
+        × HaveRoom (length j.entries) entries × GivesDone call (longer_done source job names j entries)
     longer command source head job names did makes =
         let c = came command did in
         let others = held_under did.files names in
@@ -395,6 +396,7 @@ module _ (call : Call) where
           two.0,
           reads did.files did.told head head_in one.0 one.1,
           entries_read did.files did.told source one.0.epoch job (length one.0.entries) names two.0 (sym two.1),
+          entries_few did.files source one.0.epoch job (length one.0.entries) names two.0 (sym two.1),
           same_done c.d (longer_done source job names one.0 two.0) (ok_same {E = NamedFault} c.d (longer_done source job names one.0 two.0) two.2) c.given,
         )
 
@@ -599,10 +601,12 @@ module _ (call : Call) where
               subst (GivesDone call) l.5 (given_done did.files did.told apart a.d a.makes a.gives),
             );
         sample = sample ends apart;
-        gather = λ g did. longer ends apart (commands.Gather g) (sources.Pages g.log) g.head g.job g.pages did (λ d m. m);
+        gather = λ g did.
+            let l = longer ends apart (commands.Gather g) (sources.Pages g.log) g.head g.job g.pages did (λ d m. m) in (l.0, l.1, l.2, l.3, l.5);
         gather_complete = λ g j entries asked.
             longer_complete one publishable ends (commands.Gather g) (sources.Pages g.log) g.head g.job g.pages j entries asked (λ none. cc) (λ files o m. m);
-        merge = λ m did. longer ends apart (commands.Merge m) sources.Pieces m.head m.job m.pieces did (λ d made. made);
+        merge = λ m did.
+            let l = longer ends apart (commands.Merge m) sources.Pieces m.head m.job m.pieces did (λ d made. made) in (l.0, l.1, l.2, l.3, l.5);
         merge_complete = λ m j entries asked.
             longer_complete one publishable ends (commands.Merge m) sources.Pieces m.head m.job m.pieces j entries asked (λ none. cc) (λ files o made. made);
         cut = cut ends apart;

@@ -135,16 +135,22 @@ abbrev pub AsksStore : Command → StoreQuery → History → List SealedFields 
 AsksStore asked q h parts files =
     (asked ≡ commands.Query q) × (1 ≤ members h) × (get files q.store ≡ Some (store_bytes parts))
 
--- The same, with sightings of its accepted entries alone.
-abbrev pub AsksTruth : Command → StoreQuery → History → List SealedFields → Files → Type 0
-AsksTruth asked q h parts files =
+-- The same, with sightings alone of its entries that these releases accepted.
+abbrev pub AsksTruthBy : List Release → Command → StoreQuery → History → List SealedFields → Files → Type 0
+AsksTruthBy rs asked q h parts files =
     (asked ≡ commands.Query q) × (1 ≤ members h) × (get files q.store ≡ Some (store_bytes parts))
-    × (1 ≤ length q.sightings)
-    × ((s : Sighting) → Among q.sightings s → Among (sightings q.id (seen (releases_of h parts))) s)
+    × (1 ≤ length q.sightings) × ((s : Sighting) → Among q.sightings s → Among (sightings q.id (seen rs)) s)
 
--- the line of what the history tells of the certificate, which is the truth
+-- the same by the history itself
+abbrev pub AsksTruth : Command → StoreQuery → History → List SealedFields → Files → Type 0
+AsksTruth asked q h parts files = AsksTruthBy (releases_of h parts) asked q h parts files
+
+-- the line of what these releases tell of the certificate, which is the truth
+abbrev pub told_line : List Release → Identity → List ℕ
+told_line rs x = line (verdict_word (truth rs x))
+
 abbrev pub truth_line : History → List SealedFields → StoreQuery → List ℕ
-truth_line h parts q = line (verdict_word (truth (releases_of h parts) q.id))
+truth_line h parts q = told_line (releases_of h parts) q.id
 
 -- that line alone
 abbrev pub truth_done : History → List SealedFields → StoreQuery → Done
@@ -193,9 +199,9 @@ HoldsKey files name hash =
     × HasKey key bytes × (hash ≡ sha256 key)
 
 -- The command asks the store of a history about a certificate with these sightings, by its file and by its issuer's.
--- One of the sightings is of its accepted entries, and so is each that some part covers.
-pub record AsksCertTruth
-    (asked : Command) (q : QueryCert) (x : Identity) (ss : List Sighting)
+-- One of the sightings is of its entries that these releases accepted, and so is each that some part covers.
+pub record AsksCertBy
+    (rs : List Release) (asked : Command) (q : QueryCert) (x : Identity) (ss : List Sighting)
     (h : History) (parts : List SealedFields) (files : Files)
     : Type 0 where
   pub is : asked ≡ commands.QueryCert q
@@ -203,13 +209,17 @@ pub record AsksCertTruth
   pub store : get files q.store ≡ Some (store_bytes parts)
   pub cert : HoldsCert files q.cert x.serial ss
   pub issuer : HoldsKey files q.issuer_cert x.issuer
-  pub one : (s : Sighting) × Among ss s × Among (sightings x (seen (releases_of h parts))) s
+  pub one : (s : Sighting) × Among ss s × Among (sightings x (seen rs)) s
   pub covered : (s : Sighting) (t : SealedFields) → Among ss s → Among parts t → IsTrue (covers t.part.head.ranges s)
-      → Among (sightings x (seen (releases_of h parts))) s
+      → Among (sightings x (seen rs)) s
 
--- the line of what the history tells of the certificate, which is the truth
+-- the same by the history itself
+abbrev pub AsksCertTruth : Command → QueryCert → Identity → List Sighting → History → List SealedFields → Files
+    → Type 0
+AsksCertTruth asked q x ss h parts files = AsksCertBy (releases_of h parts) asked q x ss h parts files
+
 abbrev pub cert_truth_line : History → List SealedFields → Identity → List ℕ
-cert_truth_line h parts x = line (verdict_word (truth (releases_of h parts) x))
+cert_truth_line h parts x = told_line (releases_of h parts) x
 
 -- ---- rehearsing
 

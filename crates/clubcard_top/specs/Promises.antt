@@ -1,5 +1,6 @@
 -- What the program promises of a call: the contract of `run`.
-use Rattle.std.specs.Prelude.{◌≡◌, ◌≢◌, ℕ, ◌+◌, ◌≤◌, ◌⊎◌, List, [], ◌∷◌, ◌++◌, length, None, Ok, Err, IsTrue}
+use Rattle.std.specs.Prelude.{◌≡◌, ◌≢◌, ℕ, ◌+◌, ◌≤◌, ◌⊎◌, List, [], ◌∷◌, ◌++◌, map, length, slice_get, true}
+use Rattle.std.specs.Prelude.{Some, None, Ok, Err, IsTrue}
 use Rattle.ident_core.specs.declared.identity.Identity.{Identity}
 use Rattle.ident_core.specs.declared.kind.Kind.TheVariants as kinds
 use Rattle.ident_core.specs.declared.range.Sighting.{Sighting}
@@ -13,7 +14,7 @@ use Rattle.ledger_core.specs.LedgerFields.{LedgerFields}
 use Rattle.universe_core.specs.Formats.{dated, in_format}
 use Rattle.universe_core.specs.Jobs.{Entry, facts_of}
 use Rattle.universe_core.specs.Ledgers.{no_ledger}
-use Rattle.place_core.specs.Cuts.{Cut}
+use Rattle.place_core.specs.Cuts.{Cut, is_kept}
 use Rattle.universe_core.specs.Rebases.{ledger_cut, issuers_in, is_lasting, rebased_groups}
 use Rattle.universe_core.specs.Step.{refusal as refusal_behind, groups_after}
 use Rattle.ident_core.specs.declared.bounds.TheConstants.{MAX_ISSUERS}
@@ -24,6 +25,9 @@ use Rattle.universe_core.specs.History.{seen}
 use Rattle.audit_core.specs.Auditing.{releases_of as audited_releases}
 use Rattle.publication_core.specs.Formats.{current}
 use Rattle.publication_core.specs.Histories.{IsAdmissible, History, with_job, chain, IsHistory, releases_of, LeavesOut}
+use Rattle.cut_core.specs.Cutting.{cut_job}
+use Rattle.cut_core.specs.Courses.{Course, left}
+use Rattle.cut_core.specs.InPlaces.{job_at}
 use Rattle.publication_core.specs.Building.{HaveBlocks}
 use Rattle.publication_core.specs.Publishing.{PublicationFields, Publishes}
 use Rattle.publication_core.specs.Rebasing.{BasePublicationFields, PublishesBase}
@@ -57,8 +61,10 @@ use Rattle.command_core.specs.Audits.{AreWithinLimits, IsAudited}
 use Rattle.clubcard_top.specs.Successes.{ReadsPart, ReadsEntries, ReadsJobs, SaysTheTruth}
 use Rattle.clubcard_top.specs.Headline.{AsksToContinue, AsksToStore, AsksTruth, AsksCertTruth, AsksToRehearse}
 use Rattle.clubcard_top.specs.Headline.{AsksToRebase, IsRebasableCut, AsksTheBase, AsksOfLeftOut, Brings}
+use Rattle.clubcard_top.specs.Headline.{AsksTruthBy, AsksCertBy, told_line}
 use Rattle.clubcard_top.specs.Headline.{base_of, done_by, truth_line, cert_truth_line}
 use Rattle.clubcard_top.specs.Headline.{Continues, BeginsAnew, Stored, IsRehearsed}
+use Rattle.clubcard_top.specs.Places.{HoldOctets, AsksToCut, LeavesJob, Merges, IsCutOf, SaysTheWholeTruth}
 use Rattle.clubcard_top.specs.Refusals.{Comes, Refused}
 
 -- Each command that succeeds: what the files held that it read, and what it gave of that, which is printed and held by
@@ -222,6 +228,41 @@ pub record Histories (call : Call) : Type 0 where
   -- `rehearse`
   pub followed : (queries : List Query) (jobs : List JobFields) (parts : List SealedFields) → IsHistory (chain jobs) parts
       → Found call (AsksToRehearse call.asked queries jobs) → MustSucceed call
+
+-- What a call does where a history is cut into places. The whole is a course: jobs, or a base and jobs, however many
+-- identities they accept, and whether or not they have parts. Any cut is meant, so that of a place (`at_place`), which
+-- keeps the certificates whose place it is, and that of a place of it (`both`).
+pub record Places (call : Call) : Type 0 where
+  -- `cut`: the piece of each place is read as the job, cut to the place
+  pub cut : (c : JobCut) (job : JobFields) → Found call (AsksToCut call.asked c job) → Succeeds call
+      → (p : ℕ) (name : List ℕ) → slice_get c.pieces p ≡ Some name
+      → LeavesJob call name (job_at c.by (length c.pieces) p job)
+  -- `merge`: JOB is the head with the pieces behind it, so that it is cut as they are
+  pub merged : (m : Merge) → Did call (commands.Merge m) → Found call (HoldOctets call.asked)
+      → (head : JobContents) × (pieces : List JobContents) × (job : JobContents) × Merges call m head pieces job
+  -- `query`, over the store of a cut history: of a kept certificate, asked with accepted sightings of the whole, the
+  -- line is the truth of the whole
+  pub truth : (cut : Cut) (whole : Course) (q : StoreQuery) (h : History) (parts : List SealedFields)
+      → IsCutOf cut whole h parts → is_kept cut q.id ≡ true
+      → Found call (AsksTruthBy (left whole) call.asked q h parts) → Succeeds call
+      → Prints call (told_line (left whole) q.id)
+  pub answered : (cut : Cut) (whole : Course) (q : StoreQuery) (h : History) (parts : List SealedFields)
+      → IsCutOf cut whole h parts → is_kept cut q.id ≡ true
+      → Found call (AsksTruthBy (left whole) call.asked q h parts) → MustSucceed call
+  -- `query-cert`
+  pub cert_truth : (cut : Cut) (whole : Course) (q : QueryCert) (x : Identity) (ss : List Sighting)
+      (h : History) (parts : List SealedFields) → IsCutOf cut whole h parts → is_kept cut x ≡ true
+      → Found call (AsksCertBy (left whole) call.asked q x ss h parts) → Succeeds call
+      → Prints call (told_line (left whole) x)
+  pub cert_answered : (cut : Cut) (whole : Course) (q : QueryCert) (x : Identity) (ss : List Sighting)
+      (h : History) (parts : List SealedFields) → IsCutOf cut whole h parts → is_kept cut x ≡ true
+      → Found call (AsksCertBy (left whole) call.asked q x ss h parts) → MustSucceed call
+  -- `audit` by cut jobs: STORE, whoever built it, says the truth of the whole jobs of each kept certificate
+  pub audited : (a : Audit) → Did call (commands.Audit a)
+      → (parts : List SealedFields) × (jobs : List JobFields)
+      × Reads call a.store store_in parts × ReadsJobs call a.jobs jobs
+      × ((cut : Cut) (whole : List JobFields) → jobs ≡ map (cut_job cut) whole
+      → SaysTheWholeTruth cut parts whole)
 
 -- What a refusal says of the files, where they are told; and that what is wrong with them must be said.
 pub record Refusals (call : Call) : Type 0 where

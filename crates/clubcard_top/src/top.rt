@@ -6,12 +6,15 @@ ghost use Rattle.word_core.specs.Words.{command_of};
 ghost use Rattle.command_core.specs.Statuses as statuses;
 ghost use Rattle.clubcard_top.specs.Calls.{call_of, call_of_words};
 ghost use Rattle.clubcard_top.specs.Endings.{Ends};
-ghost use Rattle.clubcard_top.specs.Promises.{Ending, Frame, Histories, Outside, Refusals, Successes};
+ghost use Rattle.clubcard_top.specs.Promises.{Ending, Frame, Histories, Outside, Places, Refusals, Successes};
 
 use crate::laws::{bases_are_made, histories_are_made};
 use crate::sending::send;
 use audit_core::agreement_is_enough;
 use command_core::{answer_to, replies_are_unique};
+use cut_core::{
+    cut_parts_say_the_truth, cuts_know_what_is_kept, cuts_leave_what_is_kept, texts_are_read,
+};
 use line_core::Status;
 use octets_core::NoMemory;
 use outside_core::{Depot, Sink};
@@ -79,6 +82,7 @@ pub fn run_gated<R: Threads + Sync, D: Depot, K: Sink, G: Gate + Sync>(
 ) -> Status
     ensures successes { Successes (call_of_words D.Depot K.Sink words.now depot.old depot.new out.old out.new result.0) }
     ensures histories { Histories (call_of_words D.Depot K.Sink words.now depot.old depot.new out.old out.new result.0) }
+    ensures places { Places (call_of_words D.Depot K.Sink words.now depot.old depot.new out.old out.new result.0) }
     ensures refusals { Refusals (call_of_words D.Depot K.Sink words.now depot.old depot.new out.old out.new result.0) }
     ensures outside { Outside (call_of_words D.Depot K.Sink words.now depot.old depot.new out.old out.new result.0) }
     ensures frame { Frame (call_of_words D.Depot K.Sink words.now depot.old depot.new out.old out.new result.0) }
@@ -89,6 +93,11 @@ pub fn run_gated<R: Threads + Sync, D: Depot, K: Sink, G: Gate + Sync>(
     bases_are_made();
     replies_are_unique();
     agreement_is_enough();
+    // What those on places stand on.
+    texts_are_read();
+    cuts_leave_what_is_kept();
+    cuts_know_what_is_kept();
+    cut_parts_say_the_truth();
     run_words(rt, alloc, gate, words, depot, out)
 }
 
@@ -110,6 +119,8 @@ pub fn run<R: Threads + Sync, D: Depot, K: Sink>(
     ensures successes { Successes (call_of_words D.Depot K.Sink words.now depot.old depot.new out.old out.new result.0) }
     // Over the files of a history of admitted jobs: what a success is, and when there must be one.
     ensures histories { Histories (call_of_words D.Depot K.Sink words.now depot.old depot.new out.old out.new result.0) }
+    // Over the files that are cut to places and of a history that is cut so: what holds of the whole.
+    ensures places { Places (call_of_words D.Depot K.Sink words.now depot.old depot.new out.old out.new result.0) }
     // Each refusal: what is wrong with which file; and that what is wrong is what is said.
     ensures refusals { Refusals (call_of_words D.Depot K.Sink words.now depot.old depot.new out.old out.new result.0) }
     // What a fault of the outside leaves, and want of memory.

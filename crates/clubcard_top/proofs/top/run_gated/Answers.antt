@@ -6,6 +6,7 @@ use Rattle.clubcard_top.proofs.Endings as endings
 use Rattle.clubcard_top.proofs.Promised as promised
 use Rattle.word_core.proofs.Asked as asked
 use Rattle.clubcard_top.proofs.OfHistories as of_histories
+use Rattle.clubcard_top.proofs.OfPlaces as of_places
 use Rattle.clubcard_top.proofs.Succeeded as succeeded
 use Rattle.clubcard_top.proofs.top.run_gated.Goals as goal
 
@@ -56,3 +57,19 @@ returns-clause-histories g c =
       follows = c.histories_are_made.ensures.followed _;
     })
     c.run_words.ensures.ends (asked.words_apart (map string_bytes c.args.words.now))
+
+pub returns-clause-places : goal.returns-clause-places
+returns-clause-places g c =
+    of_places.places
+    (call_of_words g.D.Depot g.K.Sink c.args.words.now c.args.depot.now c.run_words.new.depot c.args.out.now c.run_words.new.out c.run_words.result.0)
+    (record {
+      text = c.texts_are_read.ensures.text;
+      cut = c.texts_are_read.ensures.cut;
+      merged = c.texts_are_read.ensures.merged;
+      beside = c.cuts_leave_what_is_kept.ensures.histories;
+      begun = c.cuts_leave_what_is_kept.ensures.begun;
+      same_sightings = c.cuts_know_what_is_kept.ensures.sightings;
+      same_truth = c.cuts_know_what_is_kept.ensures.truth;
+      audited = c.cut_parts_say_the_truth.ensures.audited;
+    })
+    c.run_words.ensures.ends (asked.words_apart (map string_bytes c.args.words.now)) (returns-clause-successes g c) (returns-clause-histories g c)
