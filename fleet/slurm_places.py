@@ -6,7 +6,7 @@ two chains with a fault in each epoch, held against a third one without, on this
 
 So many (250,000) have 1.5 times as many entries, of 40 issuers (tests/sized_epochs.py). Behind the last epoch all
 accepted entries of ASKED of them (all) are asked about at their places, and the answers must be the truth of the whole,
-which is held against tools/reference.py's for a sample. The status is 0 where all that is so.
+which is held against tools/reference.py's, of 250,000 at most. The status is 0 where all that is so.
 """
 
 import json
@@ -46,8 +46,8 @@ from fleet.tests.sized_epochs import (  # noqa: E402
 
 AT_ONCE = 50000
 """How many questions one call asks."""
-REFERRED = 50000
-"""Of how many certificates the truth is held against tools/reference.py."""
+REFERRED = 250000
+"""Of how many certificates at most the truth is held against tools/reference.py."""
 
 
 def task_fails(world: World) -> None:
