@@ -15,7 +15,8 @@ pub struct Tally {
     pub entries: u64,
 }
 
-fn is_end(given: &Record) -> bool
+/// Whether a record is the end of a job.
+pub fn is_end(given: &Record) -> bool
     ensures { IsTrue result ↔ given.now ≡ Record.End }
 {
     matches!(given, Record::End)
@@ -42,7 +43,7 @@ fn ranges_of(given: &Record) -> u64
 }
 
 /// How many entries a record is.
-fn entries_of(given: &Record) -> u64
+pub fn entries_of(given: &Record) -> u64
     ensures { result ≡ entries_given given.now }
 {
     match given {

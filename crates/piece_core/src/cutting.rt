@@ -7,8 +7,9 @@ ghost use Rattle.piece_core.specs.Texts.{IsLonger};
 ghost use Rattle.piece_core.specs.Records.{place_of_record};
 ghost use Rattle.piece_core.specs.Pieces.{AreOf};
 
-use crate::record::{entries_of, is_end, place_of};
+use crate::record::place_of;
 use crate::texts::{no_texts, put};
+use gather_core::{entries_of, is_end};
 use job_core::{JobFault, JobReader, Limits, Record};
 use octets_core::NoMemory;
 use outside_core::{Feed, SliceDepot};

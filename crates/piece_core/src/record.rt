@@ -1,9 +1,8 @@
 //! Which pieces keep a record.
 
-ghost use Rattle.std.specs.Prelude.{◌≡◌, ◌↔◌, ◌<◌, IfSome, IsTrue};
+ghost use Rattle.std.specs.Prelude.{◌≡◌, ◌<◌, IfSome};
 ghost use Rattle.job_core.specs.JobLayout.{entry_meaning};
 ghost use Rattle.job_core.specs.JobText.{entry_held};
-ghost use Rattle.gather_core.specs.Opened.{entries_given};
 ghost use Rattle.piece_core.specs.Cuts.{entry_place};
 ghost use Rattle.piece_core.specs.Records.{place_of_record};
 
@@ -34,21 +33,5 @@ pub fn place_of(by: By, count: PlaceCount, record: &Record) -> Option<u32>
         },
         Record::Entry(entry) => Some(place_of_entry(by, count, entry)),
         _ => None,
-    }
-}
-
-pub fn is_end(record: &Record) -> bool
-    ensures { IsTrue result ↔ record.now ≡ Record.End }
-{
-    matches!(record, Record::End)
-}
-
-/// How many entries a record is.
-pub fn entries_of(record: &Record) -> u64
-    ensures { result ≡ entries_given record.now }
-{
-    match record {
-        Record::Entry(_) => 1,
-        _ => 0,
     }
 }
