@@ -29,7 +29,7 @@ use Rattle.universe_core.specs.declared.fault.AdmitFault.TheVariants as faults
 use Rattle.history_core.proofs.Releases.{accepted_by-push}
 use Rattle.history_core.proofs.Ledger.{past_in_ledger}
 use Rattle.audit_core.specs.Admitting.{IsCause, as_audit_fault, IsRefusal}
-use Rattle.audit_core.specs.Auditing.{releases_of, entries_of, refusal_behind, AreAdmitted}
+use Rattle.audit_core.specs.Auditing.{left_by_jobs, entries_of, refusal_behind, AreAdmitted}
 use Rattle.audit_core.proofs.Lists.{at_place, take_at, length-filter_map}
 use Rattle.audit_core.proofs.Jobs.{release_behind, history_at, history-none, history_sound}
 use Rattle.audit_core.proofs.Knowing.{parts_length}
@@ -120,15 +120,15 @@ accepted_few past job =
     let c = shown_few past job in
     omega (arith, a, b, c)
 
-pub all_few : (jobs : List JobFields) (n : ℕ) → n ≤ length jobs → length (accepted_by [] (releases_of (take n jobs))) ≤ entries_of (take n jobs)
+pub all_few : (jobs : List JobFields) (n : ℕ) → n ≤ length jobs → length (accepted_by [] (left_by_jobs (take n jobs))) ≤ entries_of (take n jobs)
 unfolding past_of accepted_by
 all_few jobs zero le = let e = ap (λ rs. length (accepted_by [] rs)) history-none in omega (arith, e)
 all_few jobs (suc n) le =
     let at = at_place jobs n (omega arith) in
     let before = all_few jobs n (omega arith) in
-    let rs = releases_of (take n jobs) in
+    let rs = left_by_jobs (take n jobs) in
     let longer : suc n ≡ n + 1 = omega arith in
-    let is = ap (λ k. length (accepted_by [] (releases_of (take k jobs)))) longer ∙ ap (λ l. length (accepted_by [] l)) (history_at jobs n at.0 at.1)
+    let is = ap (λ k. length (accepted_by [] (left_by_jobs (take k jobs)))) longer ∙ ap (λ l. length (accepted_by [] l)) (history_at jobs n at.0 at.1)
     ∙ ap length (accepted_by-push [] rs (release_behind (take n jobs) at.0)) in
     let few = accepted_few (past_of rs) (facts_of at.0) in
     let sum = ap (λ k. entries_of (take k jobs)) longer ∙ ap entries_of (take_at jobs n at.0 at.1) ∙ sum_by_push (λ (k : JobFields). length k.entries) (take n jobs) at.0 in
@@ -155,13 +155,13 @@ cause_unless (faults.TooMany what limit) o c h = c (faults.TooMany what limit) (
 cause_unless faults.NoMemory o c h = tt
 
 pub refused_named : (jobs : List JobFields) (i : ℕ) (job : JobFields) → slice_get jobs i ≡ Some job → AreAdmitted jobs i → length jobs ≤ 64 → entries_of jobs ≤ 4194304
-    → All (λ (c : CrlMeaning). IsOk c.outcome) job.crls → (ledger : LedgerFields) → ledger ≡ ledger_of (releases_of (take i jobs))
+    → All (λ (c : CrlMeaning). IsOk c.outcome) job.crls → (ledger : LedgerFields) → ledger ≡ ledger_of (left_by_jobs (take i jobs))
     → (fault : AdmitFault) → refusal PUBLISHED ledger job ≡ Some fault → IsNamed fault
 refused_named jobs i job at admitted few entries crls ledger is fault h =
     let lt = slice_get_within jobs i job at in
     let parts = parts_length ledger (take i jobs) is in
     let many = length-take i jobs in
-    let rs = releases_of (take i jobs) in
+    let rs = left_by_jobs (take i jobs) in
     let sound = history_sound jobs i (omega (arith, lt)) admitted in
     let past = ap (λ (l : LedgerFields). length (past_in l).accepted) is ∙ ap (λ (p : Past). length p.accepted) (past_in_ledger rs sound) ∙ ap length (accepted_is rs) in
     let before = all_few jobs i (omega (arith, lt)) in
@@ -170,7 +170,7 @@ refused_named jobs i job at admitted few entries crls ledger is fault h =
     cause_is ledger job fault crls (omega (arith, lt, parts, many, few)) (omega (arith, past, before, all, to, entries)) h
 
 pub refused_cause : (jobs : List JobFields) (i : ℕ) (job : JobFields) → slice_get jobs i ≡ Some job → AreAdmitted jobs i → length jobs ≤ 64 → entries_of jobs ≤ 4194304
-    → All (λ (c : CrlMeaning). IsOk c.outcome) job.crls → (ledger : LedgerFields) → ledger ≡ ledger_of (releases_of (take i jobs))
+    → All (λ (c : CrlMeaning). IsOk c.outcome) job.crls → (ledger : LedgerFields) → ledger ≡ ledger_of (left_by_jobs (take i jobs))
     → (fault : AdmitFault) → (fault ≢ faults.NoMemory → refusal PUBLISHED ledger job ≡ Some fault) → IsCause fault
 refused_cause jobs i job at admitted few entries crls ledger is fault h =
     cause_unless fault (refusal PUBLISHED ledger job)
@@ -185,6 +185,6 @@ refused_as jobs i job at admitted faults.ChainFull h = tt
 refused_as jobs i job at admitted (faults.TooMany what limit) h = tt
 refused_as jobs i job at admitted faults.NoMemory h = tt
 
-pub refusal_is : (jobs : List JobFields) (i : ℕ) (job : JobFields) → slice_get jobs i ≡ Some job → AreAdmitted jobs i → (ledger : LedgerFields) → ledger ≡ ledger_of (releases_of (take i jobs))
+pub refusal_is : (jobs : List JobFields) (i : ℕ) (job : JobFields) → slice_get jobs i ≡ Some job → AreAdmitted jobs i → (ledger : LedgerFields) → ledger ≡ ledger_of (left_by_jobs (take i jobs))
     → (fault : AdmitFault) → (fault ≢ faults.NoMemory → refusal PUBLISHED ledger job ≡ Some fault) → IsRefusal jobs (as_audit_fault i fault)
 refusal_is jobs i job at admitted ledger is fault h = refused_as jobs i job at admitted fault (λ n. ap (λ l. refusal PUBLISHED l job) (sym is) ∙ h n)

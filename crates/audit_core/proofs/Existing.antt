@@ -19,7 +19,7 @@ use Rattle.universe_core.specs.declared.fault.AdmitFault.TheVariants as admissio
 use Rattle.audit_core.specs.declared.auditing.Audited.{Audited}
 use Rattle.audit_core.specs.declared.fault.AuditFault.{AuditFault}
 use Rattle.audit_core.specs.declared.fault.AuditFault.TheVariants as faults
-use Rattle.audit_core.specs.Auditing.{releases_of, entries_of, IsAuditable, refusal_behind, AreAdmitted, IsRefused, IsAccepted, Agrees, IsFound}
+use Rattle.audit_core.specs.Auditing.{left_by_jobs, entries_of, IsAuditable, refusal_behind, AreAdmitted, IsRefused, IsAccepted, Agrees, IsFound}
 use Rattle.audit_core.specs.Checking.{is_truth}
 use Rattle.audit_core.proofs.Checks.{below_or_at}
 use Rattle.audit_core.proofs.Verdicts.{truth_is, truth_is_not}
@@ -83,20 +83,20 @@ module _ (parts : List PartFields) (jobs : List JobFields) where
   abbrev SomeWrong : ℕ → Type 0
   SomeWrong j = (n : ℕ) × Wrong j n × ((m : ℕ) → m < n → Fine j m)
 
-  said_by : (e : Entry) (b : Bool) → is_truth (verdict parts e.id (e.sighting ∷ [])) (is_listed (releases_of jobs) e.id) ≡ b → Agrees parts jobs e ⊎ (Agrees parts jobs e → ⊥)
-  said_by e true h = inl (truth_is (verdict parts e.id (e.sighting ∷ [])) (is_listed (releases_of jobs) e.id) h)
-  said_by e false h = inr (truth_is_not (verdict parts e.id (e.sighting ∷ [])) (is_listed (releases_of jobs) e.id) h)
+  said_by : (e : Entry) (b : Bool) → is_truth (verdict parts e.id (e.sighting ∷ [])) (is_listed (left_by_jobs jobs) e.id) ≡ b → Agrees parts jobs e ⊎ (Agrees parts jobs e → ⊥)
+  said_by e true h = inl (truth_is (verdict parts e.id (e.sighting ∷ [])) (is_listed (left_by_jobs jobs) e.id) h)
+  said_by e false h = inr (truth_is_not (verdict parts e.id (e.sighting ∷ [])) (is_listed (left_by_jobs jobs) e.id) h)
 
   module _ (j : ℕ) (job : JobFields) (at : slice_get jobs j ≡ Some job) where
     other_here : (n : ℕ) (e d : Entry) → slice_get job.entries n ≡ Some (Some e) → IsAccepted jobs j n d → d ≡ e
     other_here n e d there a = some_item d e (some_item (Some d) (Some e) (sym (accepted_in jobs j job at n d a).0 ∙ there))
 
     asked_by : (n : ℕ) (e : Entry) → slice_get job.entries n ≡ Some (Some e)
-        → (class_of (past_of (releases_of (take j jobs))) (facts_of job) (Some e) ≡ Accepted)
-        ⊎ (class_of (past_of (releases_of (take j jobs))) (facts_of job) (Some e) ≡ Accepted → ⊥)
+        → (class_of (past_of (left_by_jobs (take j jobs))) (facts_of job) (Some e) ≡ Accepted)
+        ⊎ (class_of (past_of (left_by_jobs (take j jobs))) (facts_of job) (Some e) ≡ Accepted → ⊥)
         → Agrees parts jobs e ⊎ (Agrees parts jobs e → ⊥) → Fine j n ⊎ Wrong j n
     asked_by n e there (inr not) said =
-        inl (λ d a. absurd (not (subst (λ (x : Entry). class_of (past_of (releases_of (take j jobs))) (facts_of job) (Some x) ≡ Accepted) (other_here n e d there a) (accepted_in jobs j job at n d a).1)))
+        inl (λ d a. absurd (not (subst (λ (x : Entry). class_of (past_of (left_by_jobs (take j jobs))) (facts_of job) (Some x) ≡ Accepted) (other_here n e d there a) (accepted_in jobs j job at n d a).1)))
     asked_by n e there (inl accepted) (inl agrees) = inl (λ d a. subst (Agrees parts jobs) (sym (other_here n e d there a)) agrees)
     asked_by n e there (inl accepted) (inr differs) = inr (e, record { job = job; at = at; entry = there; accepted = accepted }, differs)
 
@@ -105,8 +105,8 @@ module _ (parts : List PartFields) (jobs : List JobFields) where
     entry_by n (Some None) unread =
         inl (λ d a. absurd (let e : None ≡ Some d = some_item None (Some d) (sym unread ∙ (accepted_in jobs j job at n d a).0) in cc))
     entry_by n (Some (Some e)) there =
-        asked_by n e there (accepted_or_not (class_of (past_of (releases_of (take j jobs))) (facts_of job) (Some e)))
-        (said_by e (is_truth (verdict parts e.id (e.sighting ∷ [])) (is_listed (releases_of jobs) e.id)) refl)
+        asked_by n e there (accepted_or_not (class_of (past_of (left_by_jobs (take j jobs))) (facts_of job) (Some e)))
+        (said_by e (is_truth (verdict parts e.id (e.sighting ∷ [])) (is_listed (left_by_jobs jobs) e.id)) refl)
 
     entries_are : FirstOrAll (Fine j) (Wrong j) (length job.entries) → AllFine j ⊎ SomeWrong j
     entries_are (inl all) = inl (λ n e a. all n (slice_get_within job.entries n (Some e) (accepted_in jobs j job at n e a).0) e a)
@@ -131,7 +131,7 @@ module _ (parts : List PartFields) (jobs : List JobFields) where
       → ((m : ℕ) → m < n → Fine j m) → ((i : ℕ) → i < j → AllFine i) → Finds
   disagreement_finds admitted j n e accepted differs here before =
       let said = verdict parts e.id (e.sighting ∷ []) in
-      let listed = is_listed (releases_of jobs) e.id in (
+      let listed = is_listed (left_by_jobs jobs) e.id in (
         Err (faults.Disagrees j n said listed),
         (
           admitted,
@@ -150,7 +150,7 @@ module _ (parts : List PartFields) (jobs : List JobFields) where
 
   agreement_finds : AreAdmitted jobs (length jobs) → FirstOrAll AllFine SomeWrong (length jobs) → Finds
   agreement_finds admitted (inl all) = (
-    Ok (record { entries = length (seen (releases_of jobs)) }),
+    Ok (record { entries = length (seen (left_by_jobs jobs)) }),
     (admitted, λ j n e a. all j (slice_get_within jobs j a.job a.at) n e a, refl),
     λ h. absurd cc,
   )
@@ -179,7 +179,7 @@ module _ (parts : List PartFields) (jobs : List JobFields) where
       let lt = slice_get_within jobs j job at in
       let here = some_item (get_or jobs j job) job (sym (slice_get-get_or jobs j job lt) ∙ at) in
       let crls = (subst IsAuditable here (auditable j job lt)).crls in
-      refusal_finds j why (refused_named jobs j job at admitted few entries crls (ledger_of (releases_of (take j jobs))) refl why refused)
+      refusal_finds j why (refused_named jobs j job at admitted few entries crls (ledger_of (left_by_jobs (take j jobs))) refl why refused)
       (record { job = job; at = at; refused = refused; admitted = admitted })
 
   pub something_found : length jobs ≤ 64 → All IsAuditable jobs → entries_of jobs ≤ 4194304 → Finds

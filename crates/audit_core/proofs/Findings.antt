@@ -23,7 +23,7 @@ use Rattle.history_core.proofs.Sightings.{Among-sightings}
 use Rattle.audit_core.specs.declared.auditing.Audited.{Audited}
 use Rattle.audit_core.specs.declared.fault.AuditFault.{AuditFault}
 use Rattle.audit_core.specs.declared.fault.AuditFault.TheVariants as faults
-use Rattle.audit_core.specs.Auditing.{releases_of, AreAdmitted, IsAccepted, Agrees, AllAgree, IsDisagreement, IsFound}
+use Rattle.audit_core.specs.Auditing.{left_by_jobs, AreAdmitted, IsAccepted, Agrees, AllAgree, IsDisagreement, IsFound}
 use Rattle.audit_core.specs.Checking.{truth_by, IsFirstIn}
 use Rattle.audit_core.proofs.Lists.{at_place, place_of}
 use Rattle.audit_core.proofs.Jobs.{release_behind, history_at, history-none}
@@ -52,11 +52,11 @@ disagreement_found parts jobs a faults.NoMemory d = absurd d
 
 -- ---- no job
 
-pub seen-none : seen (releases_of []) ≡ []
+pub seen-none : seen (left_by_jobs []) ≡ []
 unfolding seen
 seen-none = ap seen history-none
 
-pub no_ledger_is : no_ledger ≡ ledger_of (releases_of [])
+pub no_ledger_is : no_ledger ≡ ledger_of (left_by_jobs [])
 unfolding ledger_of accepted_by
 no_ledger_is = sym (ap ledger_of history-none)
 
@@ -67,19 +67,19 @@ no_jobs_found parts [] h = (λ j job lt k. absurd (omega (arith, lt)), λ j n e 
     nothing j job k = let lt = slice_get_within [] j job k in omega (arith, lt)
 no_jobs_found parts (job ∷ jobs) h = absurd (omega (arith, h))
 
-pub none_found : (parts : List PartFields) (jobs : List JobFields) → no_ledger ≡ ledger_of (releases_of jobs) → IsFound parts jobs (Ok (record { entries = 0 }))
+pub none_found : (parts : List PartFields) (jobs : List JobFields) → no_ledger ≡ ledger_of (left_by_jobs jobs) → IsFound parts jobs (Ok (record { entries = 0 }))
 none_found parts jobs h = let n = parts_length no_ledger jobs h in no_jobs_found parts jobs (sym n)
 
 -- ---- the accepted entries of the history are those of its jobs
 
-seen_accepted : (jobs : List JobFields) (k : ℕ) → k ≤ length jobs → (e : Entry) → Among (seen (releases_of (take k jobs))) e → (j : ℕ) × (n : ℕ) × IsAccepted jobs j n e
+seen_accepted : (jobs : List JobFields) (k : ℕ) → k ≤ length jobs → (e : Entry) → Among (seen (left_by_jobs (take k jobs))) e → (j : ℕ) × (n : ℕ) × IsAccepted jobs j n e
 unfolding class_by
 seen_accepted jobs zero le e a = absurd (subst (λ (l : List Entry). Among l e) seen-none a)
 seen_accepted jobs (suc k) le e a =
     let at = at_place jobs k (omega (arith, le)) in
-    let rs = releases_of (take k jobs) in
+    let rs = left_by_jobs (take k jobs) in
     let longer : suc k ≡ k + 1 = omega arith in
-    let is = ap (λ n. seen (releases_of (take n jobs))) longer ∙ ap seen (history_at jobs k at.0 at.1) ∙ seen-push rs (release_behind (take k jobs) at.0) in
+    let is = ap (λ n. seen (left_by_jobs (take n jobs))) longer ∙ ap seen (history_at jobs k at.0 at.1) ∙ seen-push rs (release_behind (take k jobs) at.0) in
     ⊎_elim (λ b. seen_accepted jobs k (omega (arith, le)) e b)
     (λ b.
     let s = shown_is (past_of rs) (facts_of at.0) e b in
@@ -90,13 +90,13 @@ seen_accepted jobs (suc k) le e a =
 
 -- ---- the yes
 
-one_agrees : (parts : List PartFields) (jobs : List JobFields) → AllAgree parts jobs → (x : Identity) (s : Sighting) → Among (sightings x (seen (releases_of jobs))) s
-    → verdict parts x (s ∷ []) ≡ truth (releases_of jobs) x
+one_agrees : (parts : List PartFields) (jobs : List JobFields) → AllAgree parts jobs → (x : Identity) (s : Sighting) → Among (sightings x (seen (left_by_jobs jobs))) s
+    → verdict parts x (s ∷ []) ≡ truth (left_by_jobs jobs) x
 one_agrees parts jobs all x s a =
-    let f = Among-sightings x (seen (releases_of jobs)) s a in
+    let f = Among-sightings x (seen (left_by_jobs jobs)) s a in
     let whole : take (length jobs) jobs ≡ jobs = take_all (length jobs) jobs (omega arith) in
-    let q = seen_accepted jobs (length jobs) (omega arith) f.0 (subst (λ l. Among (seen (releases_of l)) f.0) (sym whole) f.1) in
-    ap (λ y. verdict parts y (s ∷ [])) f.2 ∙ ap (λ t. verdict parts f.0.id (t ∷ [])) (sym f.3) ∙ all q.0 q.1 f.0 q.2 ∙ ap (truth (releases_of jobs)) (sym f.2)
+    let q = seen_accepted jobs (length jobs) (omega arith) f.0 (subst (λ l. Among (seen (left_by_jobs l)) f.0) (sym whole) f.1) in
+    ap (λ y. verdict parts y (s ∷ [])) f.2 ∙ ap (λ t. verdict parts f.0.id (t ∷ [])) (sym f.3) ∙ all q.0 q.1 f.0 q.2 ∙ ap (truth (left_by_jobs jobs)) (sym f.2)
 
 by_listing : (parts : List PartFields) (x : Identity) (ss : List Sighting) (t : Bool) → 1 ≤ length ss → ((s : Sighting) → Among ss s → verdict parts x (s ∷ []) ≡ truth_by t)
     → verdict parts x ss ≡ truth_by t
@@ -105,12 +105,12 @@ by_listing parts x (s ∷ ss) true some h = revoked_by_one parts x (s ∷ ss) s 
 by_listing parts x ss false some h = good_by_all parts x ss some h
 
 abbrev pub AnswersTruly : List PartFields → List JobFields → Type 0
-AnswersTruly parts jobs = (x : Identity) (ss : List Sighting) → 1 ≤ length ss → ((s : Sighting) → Among ss s → Among (sightings x (seen (releases_of jobs))) s)
-    → verdict parts x ss ≡ truth (releases_of jobs) x
+AnswersTruly parts jobs = (x : Identity) (ss : List Sighting) → 1 ≤ length ss → ((s : Sighting) → Among ss s → Among (sightings x (seen (left_by_jobs jobs))) s)
+    → verdict parts x ss ≡ truth (left_by_jobs jobs) x
 
 pub answers_truly : (parts : List PartFields) (jobs : List JobFields) → AllAgree parts jobs → AnswersTruly parts jobs
 answers_truly parts jobs all x ss some among =
-    by_listing parts x ss (is_listed (releases_of jobs) x) some (λ s a. one_agrees parts jobs all x s (among s a))
+    by_listing parts x ss (is_listed (left_by_jobs jobs) x) some (λ s a. one_agrees parts jobs all x s (among s a))
 
 pub found_truly : (parts : List PartFields) (jobs : List JobFields) (r : Result Audited AuditFault) → IsFound parts jobs r → OnOk r (AnswersTruly parts jobs)
 found_truly parts jobs (Ok a) f = answers_truly parts jobs f.1

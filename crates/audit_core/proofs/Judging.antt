@@ -25,7 +25,7 @@ use Rattle.history_core.proofs.Releases.{seen-push}
 use Rattle.audit_core.specs.declared.fault.AuditFault.{AuditFault}
 use Rattle.audit_core.specs.declared.checking.Agreement.{Agreement}
 use Rattle.audit_core.specs.declared.checking.Agreement.TheVariants as agreements
-use Rattle.audit_core.specs.Auditing.{releases_of, entries_of, IsAccepted, Agrees}
+use Rattle.audit_core.specs.Auditing.{left_by_jobs, entries_of, IsAccepted, Agrees}
 use Rattle.audit_core.specs.Checking.{listing, is_truth, truth_by, agreement_by, agreement_of, IsFine, AreFine, is_told, IsFirstOf, IsFirstIn}
 use Rattle.audit_core.proofs.Lists.{take_at, length-filter_map, count_agree}
 use Rattle.audit_core.proofs.Verdicts.{truth_is, truth_is_not}
@@ -85,9 +85,9 @@ told_if Accepted t e = refl
 
 -- ---- one job
 
-module _ (jobs : List JobFields) (j : ℕ) (job : JobFields) (at : slice_get jobs j ≡ Some job) (sound : IsSound (releases_of jobs))
-    (ledger : LedgerFields) (is : ledger ≡ ledger_of (releases_of jobs)) (part : LedgerPartFields) (here : slice_get ledger.parts j ≡ Some part) where
-  place_is : length (releases_of (take j jobs)) ≡ j
+module _ (jobs : List JobFields) (j : ℕ) (job : JobFields) (at : slice_get jobs j ≡ Some job) (sound : IsSound (left_by_jobs jobs))
+    (ledger : LedgerFields) (is : ledger ≡ ledger_of (left_by_jobs jobs)) (part : LedgerPartFields) (here : slice_get ledger.parts j ≡ Some part) where
+  place_is : length (left_by_jobs (take j jobs)) ≡ j
   place_is =
       let a = history-length (take j jobs) in
       let lt = slice_get_within jobs j job at in
@@ -98,23 +98,23 @@ module _ (jobs : List JobFields) (j : ℕ) (job : JobFields) (at : slice_get job
   part_is =
       let cut = history_cut jobs j job at in
       let r = release_behind (take j jobs) job in
-      let whole : slice_get (releases_of jobs) j ≡ Some r
-      = ap (λ rs. slice_get rs j) cut.1 ∙ ap (slice_get (releases_of (take j jobs) ++ r ∷ cut.0)) (sym place_is) ∙ slice_mid (releases_of (take j jobs)) cut.0 r in
+      let whole : slice_get (left_by_jobs jobs) j ≡ Some r
+      = ap (λ rs. slice_get rs j) cut.1 ∙ ap (slice_get (left_by_jobs (take j jobs) ++ r ∷ cut.0)) (sym place_is) ∙ slice_mid (left_by_jobs (take j jobs)) cut.0 r in
       some_item part (part_from r)
-      (sym here ∙ ap (λ (l : LedgerFields). slice_get l.parts j) is ∙ ap (λ ps. slice_get ps j) (parts_are (releases_of jobs)) ∙ slice_get-map part_from (releases_of jobs) j ∙ ap (option_map part_from) whole)
+      (sym here ∙ ap (λ (l : LedgerFields). slice_get l.parts j) is ∙ ap (λ ps. slice_get ps j) (parts_are (left_by_jobs jobs)) ∙ slice_get-map part_from (left_by_jobs jobs) j ∙ ap (option_map part_from) whole)
 
-  told : (e : Entry) → Among job.entries (Some e) → listing ledger part e ≡ told_by (class_of (past_of (releases_of (take j jobs))) (facts_of job) (Some e)) (is_listed (releases_of jobs) e.id)
+  told : (e : Entry) → Among job.entries (Some e) → listing ledger part e ≡ told_by (class_of (past_of (left_by_jobs (take j jobs))) (facts_of job) (Some e)) (is_listed (left_by_jobs jobs) e.id)
   told e a =
       let cut = history_cut jobs j job at in
       let r = release_behind (take j jobs) job in
-      ap (λ l. listing l part e) is ∙ ap (λ p. listing (ledger_of (releases_of jobs)) p e) part_is
-      ∙ subst (λ rs. listing (ledger_of rs) (part_from r) e ≡ told_by (class_of (past_of (releases_of (take j jobs))) (facts_of job) (Some e)) (is_listed rs e.id)) (sym cut.1)
-      (listing_is (releases_of (take j jobs)) cut.0 (facts_of job) (subst IsSound cut.1 sound) e a)
+      ap (λ l. listing l part e) is ∙ ap (λ p. listing (ledger_of (left_by_jobs jobs)) p e) part_is
+      ∙ subst (λ rs. listing (ledger_of rs) (part_from r) e ≡ told_by (class_of (past_of (left_by_jobs (take j jobs))) (facts_of job) (Some e)) (is_listed rs e.id)) (sym cut.1)
+      (listing_is (left_by_jobs (take j jobs)) cut.0 (facts_of job) (subst IsSound cut.1 sound) e a)
 
   -- where the first entries are fine, the parts say the truth of the accepted ones
   pub agrees_to : (parts : List PartFields) (k : ℕ) → AreFine parts (listing ledger part) job.entries k → (n : ℕ) (e : Entry) → n < k → IsAccepted jobs j n e → Agrees parts jobs e
   agrees_to parts k f n e lt a =
-      let t = is_listed (releases_of jobs) e.id in
+      let t = is_listed (left_by_jobs jobs) e.id in
       let v = verdict parts e.id (e.sighting ∷ []) in
       let among = Among-from_place job.entries n (Some e) (accepted_in jobs j job at n e a).0 in
       let tells : listing ledger part e ≡ Some t = told e among ∙ ap (λ c. told_by c t) ((accepted_in jobs j job at n e a).1) in
@@ -124,19 +124,19 @@ module _ (jobs : List JobFields) (j : ℕ) (job : JobFields) (at : slice_get job
   pub agrees_all : (parts : List PartFields) → AreFine parts (listing ledger part) job.entries (length job.entries) → (n : ℕ) (e : Entry) → IsAccepted jobs j n e → Agrees parts jobs e
   agrees_all parts f n e a = agrees_to parts (length job.entries) f n e (slice_get_within job.entries n (Some e) (accepted_in jobs j job at n e a).0) a
 
-  is_told_at : (o : Option Entry) → Among job.entries o → is_told (listing ledger part) o ≡ is_some (if_accepted (class_of (past_of (releases_of (take j jobs))) (facts_of job) o) o)
+  is_told_at : (o : Option Entry) → Among job.entries o → is_told (listing ledger part) o ≡ is_some (if_accepted (class_of (past_of (left_by_jobs (take j jobs))) (facts_of job) o) o)
   unfolding class_by
   is_told_at None a = refl
-  is_told_at (Some e) a = ap is_some (told e a) ∙ told_if (class_of (past_of (releases_of (take j jobs))) (facts_of job) (Some e)) (is_listed (releases_of jobs) e.id) e
+  is_told_at (Some e) a = ap is_some (told e a) ∙ told_if (class_of (past_of (left_by_jobs (take j jobs))) (facts_of job) (Some e)) (is_listed (left_by_jobs jobs) e.id) e
 
-  pub counted : (n : ℕ) → n ≡ count_by (is_told (listing ledger part)) job.entries → length (seen (releases_of (take (j + 1) jobs))) ≡ length (seen (releases_of (take j jobs))) + n
+  pub counted : (n : ℕ) → n ≡ count_by (is_told (listing ledger part)) job.entries → length (seen (left_by_jobs (take (j + 1) jobs))) ≡ length (seen (left_by_jobs (take j jobs))) + n
   unfolding shown
   counted n h =
       let r = release_behind (take j jobs) job in
-      let accepted = λ (o : Option Entry). if_accepted (class_of (past_of (releases_of (take j jobs))) (facts_of job) o) o in
+      let accepted = λ (o : Option Entry). if_accepted (class_of (past_of (left_by_jobs (take j jobs))) (facts_of job) o) o in
       let all : n ≡ length r.shown = h ∙ count_agree (is_told (listing ledger part)) (λ o. is_some (accepted o)) job.entries is_told_at ∙ sym (length-filter_map accepted job.entries) in
-      ap (λ rs. length (seen rs)) (history_at jobs j job at) ∙ ap length (seen-push (releases_of (take j jobs)) r) ∙ length-append (seen (releases_of (take j jobs))) r.shown
-      ∙ ap (λ m. length (seen (releases_of (take j jobs))) + m) (sym all)
+      ap (λ rs. length (seen rs)) (history_at jobs j job at) ∙ ap length (seen-push (left_by_jobs (take j jobs)) r) ∙ length-append (seen (left_by_jobs (take j jobs))) r.shown
+      ∙ ap (λ m. length (seen (left_by_jobs (take j jobs))) + m) (sym all)
 
   pub few_at : (n : ℕ) → n ≡ count_by (is_told (listing ledger part)) job.entries → entries_of (take j jobs) + n ≤ entries_of (take (j + 1) jobs)
   few_at n h =
@@ -150,10 +150,10 @@ module _ (jobs : List JobFields) (j : ℕ) (job : JobFields) (at : slice_get job
       not_disagrees : agreements.Skipped ≡ agreements.Disagrees f.held f.listed → ⊥
       not_disagrees e = absurd cc
   first_at parts fault f (Some e) h =
-      let t = is_listed (releases_of jobs) e.id in
+      let t = is_listed (left_by_jobs jobs) e.id in
       let entry : slice_get job.entries f.place ≡ Some (Some e) = f.at ∙ ap (λ z. Some z) h in
       let among = Among-from_place job.entries f.place (Some e) entry in
-      let c = class_of (past_of (releases_of (take j jobs))) (facts_of job) (Some e) in
+      let c = class_of (past_of (left_by_jobs (take j jobs))) (facts_of job) (Some e) in
       let d = disagrees_by parts e c t f.held f.listed (ap (agreement_by parts e) (sym (told e among)) ∙ sym (ap (agreement_of parts (listing ledger part)) h) ∙ f.asked) in
       record {
         place = f.place;

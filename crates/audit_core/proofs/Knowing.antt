@@ -16,7 +16,7 @@ use Rattle.universe_core.specs.History.{seen}
 use Rattle.universe_core.specs.Ledgers.{ledger_of, part_from}
 use Rattle.history_core.specs.Facts.{IsSound}
 use Rattle.audit_core.specs.declared.fault.AuditFault.{AuditFault}
-use Rattle.audit_core.specs.Auditing.{releases_of, entries_of, IsAuditable, AreAdmitted, IsAccepted, Agrees}
+use Rattle.audit_core.specs.Auditing.{left_by_jobs, entries_of, IsAuditable, AreAdmitted, IsAccepted, Agrees}
 use Rattle.audit_core.specs.Checking.{listing, AreFine, is_told, IsFirstOf, IsFirstIn}
 use Rattle.audit_core.proofs.Jobs.{history_sound, history-length}
 use Rattle.audit_core.proofs.Judging.{parts_are, agrees_all, counted, few_at, first_is}
@@ -37,26 +37,26 @@ if_err (Err e) P Q h f = f e h
 pub mapped_at : {A B : Type 0} (f : A → B) (xs : List A) (j : ℕ) (x : A) → j < length xs → x ≡ get_or xs j x → slice_get (map f xs) j ≡ Some (f x)
 mapped_at f xs j x lt is = slice_get-map f xs j ∙ ap (option_map f) (slice_get_read xs (length xs) j x refl lt is)
 
-pub sound_all : (jobs : List JobFields) (n : ℕ) → n ≡ length jobs → AreAdmitted jobs n → IsSound (releases_of jobs)
-sound_all jobs n e a = subst (λ l. IsSound (releases_of l)) (take_all n jobs (omega arith)) (history_sound jobs n (omega arith) a)
+pub sound_all : (jobs : List JobFields) (n : ℕ) → n ≡ length jobs → AreAdmitted jobs n → IsSound (left_by_jobs jobs)
+sound_all jobs n e a = subst (λ l. IsSound (left_by_jobs l)) (take_all n jobs (omega arith)) (history_sound jobs n (omega arith) a)
 
-pub parts_length : (ledger : LedgerFields) (jobs : List JobFields) → ledger ≡ ledger_of (releases_of jobs) → length ledger.parts ≡ length jobs
-parts_length ledger jobs is = ap (λ (l : LedgerFields). length l.parts) is ∙ ap length (parts_are (releases_of jobs)) ∙ length-map (releases_of jobs) part_from ∙ history-length jobs
+pub parts_length : (ledger : LedgerFields) (jobs : List JobFields) → ledger ≡ ledger_of (left_by_jobs jobs) → length ledger.parts ≡ length jobs
+parts_length ledger jobs is = ap (λ (l : LedgerFields). length l.parts) is ∙ ap length (parts_are (left_by_jobs jobs)) ∙ length-map (left_by_jobs jobs) part_from ∙ history-length jobs
 
-pub known_length : (parts : List LedgerPart) (jobs : List Job) (ledger : LedgerFields) → map part_fields parts ≡ ledger.parts → ledger ≡ ledger_of (releases_of (map fields_of_job jobs))
+pub known_length : (parts : List LedgerPart) (jobs : List Job) (ledger : LedgerFields) → map part_fields parts ≡ ledger.parts → ledger ≡ ledger_of (left_by_jobs (map fields_of_job jobs))
     → length parts ≡ length jobs
 known_length parts jobs ledger p is = sym (length-map parts part_fields) ∙ ap length p ∙ parts_length ledger (map fields_of_job jobs) is ∙ length-map jobs fields_of_job
 
 -- a job and its part
 pub record Known (jobs : List JobFields) (j : ℕ) (ledger : LedgerFields) (job : JobFields) (part : LedgerPartFields) (entries : List (Option Entry)) : Type 0 where
   pub at : slice_get jobs j ≡ Some job
-  pub sound : IsSound (releases_of jobs)
-  pub is : ledger ≡ ledger_of (releases_of jobs)
+  pub sound : IsSound (left_by_jobs jobs)
+  pub is : ledger ≡ ledger_of (left_by_jobs jobs)
   pub here : slice_get ledger.parts j ≡ Some part
   pub same : entries ≡ job.entries
 
 pub known : (jobs : List Job) (j : ℕ) (ledger : LedgerFields) (parts : List LedgerPart) (job : Job) (part : LedgerPart) (entries : List (Option Entry)) → j < length jobs
-    → AreAdmitted (map fields_of_job jobs) (length jobs) → ledger ≡ ledger_of (releases_of (map fields_of_job jobs)) → map part_fields parts ≡ ledger.parts
+    → AreAdmitted (map fields_of_job jobs) (length jobs) → ledger ≡ ledger_of (left_by_jobs (map fields_of_job jobs)) → map part_fields parts ≡ ledger.parts
     → job ≡ get_or jobs j job → part ≡ get_or parts j part → entries ≡ (get_or jobs j job).entries.items
     → Known (map fields_of_job jobs) j ledger (fields_of_job job) (part_fields part) entries
 known jobs j ledger parts job part entries lt admitted is p at_job at_part from =
@@ -75,7 +75,7 @@ known_agree jobs j ledger job part entries k store f =
     agrees_all jobs j job k.at k.sound ledger k.is part k.here store (subst (λ es. AreFine store (listing ledger part) es (length es)) k.same f)
 
 pub known_count : (jobs : List JobFields) (j : ℕ) (ledger : LedgerFields) (job : JobFields) (part : LedgerPartFields) (entries : List (Option Entry)) → Known jobs j ledger job part entries
-    → (n : ℕ) → n ≡ count_by (is_told (listing ledger part)) entries → length (seen (releases_of (take (j + 1) jobs))) ≡ length (seen (releases_of (take j jobs))) + n
+    → (n : ℕ) → n ≡ count_by (is_told (listing ledger part)) entries → length (seen (left_by_jobs (take (j + 1) jobs))) ≡ length (seen (left_by_jobs (take j jobs))) + n
 known_count jobs j ledger job part entries k n h =
     counted jobs j job k.at k.sound ledger k.is part k.here n (h ∙ ap (count_by (is_told (listing ledger part))) k.same)
 

@@ -16,7 +16,7 @@ use Rattle.universe_core.specs.declared.fault.AdmitFault.TheVariants as admissio
 use Rattle.audit_core.specs.declared.auditing.Audited.{Audited}
 use Rattle.audit_core.specs.declared.fault.AuditFault.{AuditFault}
 use Rattle.audit_core.specs.declared.fault.AuditFault.TheVariants as faults
-use Rattle.audit_core.specs.Auditing.{releases_of, refusal_behind, AreAdmitted, IsRefused, IsAccepted, AllAgree, ComesBefore, Disagree, IsFound}
+use Rattle.audit_core.specs.Auditing.{left_by_jobs, refusal_behind, AreAdmitted, IsRefused, IsAccepted, AllAgree, ComesBefore, Disagree, IsFound}
 use Rattle.audit_core.proofs.Jobs.{accepted_in}
 
 -- a place is before another, at it, or behind it
@@ -82,7 +82,7 @@ module _ (parts : List PartFields) (jobs : List JobFields) where
   said_same j n v w b c d e =
       let same = accepted_same j n d.entry e.entry d.accepted e.accepted in (
         d.held ∙ ap (λ (x : Entry). verdict parts x.id (x.sighting ∷ [])) same ∙ sym e.held,
-        d.listed ∙ ap (λ (x : Entry). is_listed (releases_of jobs) x.id) same ∙ sym e.listed,
+        d.listed ∙ ap (λ (x : Entry). is_listed (left_by_jobs jobs) x.id) same ∙ sym e.listed,
       )
 
   disagree_same : (j n i m : ℕ) (v w : Verdict) (b c : Bool) → Disagree parts jobs j n v b → Disagree parts jobs i m w c → faults.Disagrees j n v b ≡ faults.Disagrees i m w c

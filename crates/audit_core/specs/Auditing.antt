@@ -40,14 +40,14 @@ abbrev pub entries_of : List JobFields → ℕ
 entries_of jobs = sum_by (λ job. length job.entries) jobs
 
 -- what the jobs leave, one after the other; no part is known, and the trailers are zeros
-unfoldable pub releases_of : List JobFields → List Release
-releases_of jobs = releases (λ rs job. zero_key) [] (map facts_of jobs)
+unfoldable pub left_by_jobs : List JobFields → List Release
+left_by_jobs jobs = releases (λ rs job. zero_key) [] (map facts_of jobs)
 
 -- ---- admission
 
 -- why a job isn't admitted behind some others
 abbrev pub refusal_behind : List JobFields → JobFields → Option AdmitFault
-refusal_behind jobs job = refusal PUBLISHED (ledger_of (releases_of jobs)) job
+refusal_behind jobs job = refusal PUBLISHED (ledger_of (left_by_jobs jobs)) job
 
 -- each of the first n jobs is admitted behind those before it
 abbrev pub AreAdmitted : List JobFields → ℕ → Type 0
@@ -67,11 +67,11 @@ pub record IsAccepted (jobs : List JobFields) (j n : ℕ) (e : Entry) : Type 0 w
   pub job : JobFields
   pub at : slice_get jobs j ≡ Some job
   pub entry : slice_get job.entries n ≡ Some (Some e)
-  pub accepted : class_of (past_of (releases_of (take j jobs))) (facts_of job) (Some e) ≡ Accepted
+  pub accepted : class_of (past_of (left_by_jobs (take j jobs))) (facts_of job) (Some e) ≡ Accepted
 
 -- the parts say the truth of an entry, asked with its one sighting
 abbrev pub Agrees : List PartFields → List JobFields → Entry → Type 0
-Agrees parts jobs e = verdict parts e.id (e.sighting ∷ []) ≡ truth (releases_of jobs) e.id
+Agrees parts jobs e = verdict parts e.id (e.sighting ∷ []) ≡ truth (left_by_jobs jobs) e.id
 
 -- they do of each entry that is accepted
 abbrev pub AllAgree : List PartFields → List JobFields → Type 0
@@ -87,8 +87,8 @@ pub record Disagree (parts : List PartFields) (jobs : List JobFields) (j n : ℕ
   pub entry : Entry
   pub accepted : IsAccepted jobs j n entry
   pub held : said ≡ verdict parts entry.id (entry.sighting ∷ [])
-  pub listed : is_revoked ≡ is_listed (releases_of jobs) entry.id
-  pub differs : said ≢ truth (releases_of jobs) entry.id
+  pub listed : is_revoked ≡ is_listed (left_by_jobs jobs) entry.id
+  pub differs : said ≢ truth (left_by_jobs jobs) entry.id
   pub first : (i m : ℕ) (e : Entry) → IsAccepted jobs i m e → ComesBefore i m j n → Agrees parts jobs e
 
 -- the fault says which entry is the first
@@ -102,7 +102,7 @@ IsDisagreement parts jobs faults.NoMemory = ⊥
 
 -- What an audit says of these parts and jobs is so. Want of memory says nothing.
 abbrev pub IsFound : List PartFields → List JobFields → Result Audited AuditFault → Type 0
-IsFound parts jobs (Ok a) = AreAdmitted jobs (length jobs) × AllAgree parts jobs × (a.entries ≡ length (seen (releases_of jobs)))
+IsFound parts jobs (Ok a) = AreAdmitted jobs (length jobs) × AllAgree parts jobs × (a.entries ≡ length (seen (left_by_jobs jobs)))
 IsFound parts jobs (Err (faults.OldEpoch j held given)) = IsRefused jobs j (admission.OldEpoch held given)
 IsFound parts jobs (Err (faults.CoverageShrinks j log)) = IsRefused jobs j (admission.CoverageShrinks log)
 IsFound parts jobs (Err (faults.Disagrees j n held listed)) = AreAdmitted jobs (length jobs) × Disagree parts jobs j n held listed

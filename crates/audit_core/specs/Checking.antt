@@ -12,7 +12,7 @@ use Rattle.ident_core.specs.Sets.{has_key}
 use Rattle.universe_core.specs.Ledgers.{past_in}
 use Rattle.job_core.specs.JobFields.{JobFields}
 use Rattle.universe_core.specs.History.{is_listed}
-use Rattle.audit_core.specs.Auditing.{releases_of, IsAccepted, Agrees}
+use Rattle.audit_core.specs.Auditing.{left_by_jobs, IsAccepted, Agrees}
 use Rattle.audit_core.specs.declared.fault.AuditFault.{AuditFault}
 use Rattle.audit_core.specs.declared.fault.AuditFault.TheVariants as faults
 use Rattle.audit_core.specs.declared.checking.Agreement.{Agreement}
@@ -87,6 +87,6 @@ pub record IsFirstIn (parts : List PartFields) (jobs : List JobFields) (j : ℕ)
   pub fault : e ≡ faults.Disagrees j place held listed
   pub accepted : IsAccepted jobs j place entry
   pub said : held ≡ verdict parts entry.id (entry.sighting ∷ [])
-  pub truth : listed ≡ is_listed (releases_of jobs) entry.id
+  pub truth : listed ≡ is_listed (left_by_jobs jobs) entry.id
   pub differs : held ≢ truth_by listed
   pub before : (m : ℕ) (d : Entry) → m < place → IsAccepted jobs j m d → Agrees parts jobs d

@@ -9,7 +9,7 @@ ghost use Rattle.universe_core.specs.Jobs.{facts_of_job};
 ghost use Rattle.universe_core.specs.Ledgers.{ledger_or_none, ledger_of, next_ledger};
 ghost use Rattle.universe_core.specs.Step.{KeepsLimits, refusal};
 ghost use Rattle.audit_core.specs.Admitting.{IsCause, as_audit_fault, IsRefusal};
-ghost use Rattle.audit_core.specs.Auditing.{IsAuditable, fields_of_jobs, entries_of, releases_of, AreAdmitted};
+ghost use Rattle.audit_core.specs.Auditing.{IsAuditable, fields_of_jobs, entries_of, left_by_jobs, AreAdmitted};
 
 use crate::fault::AuditFault;
 use job_core::{Job, Limits};
@@ -55,7 +55,7 @@ pub(crate) fn ledger_after_all(alloc: Global, jobs: &[Job]) -> Result<Option<Led
     requires jobs { All IsAuditable (fields_of_jobs jobs.now) }
     requires entries { entries_of (fields_of_jobs jobs.now) ≤ MAX_IDENTITIES }
     ensures admitted { OnOk result (AreAdmitted (fields_of_jobs jobs.now) (length jobs.now)) }
-    ensures ledger { IfOk result (λ l. ledger_or_none l ≡ ledger_of (releases_of (fields_of_jobs jobs.now))) }
+    ensures ledger { IfOk result (λ l. ledger_or_none l ≡ ledger_of (left_by_jobs (fields_of_jobs jobs.now))) }
     ensures refused { IfErr result (λ e. IsRefusal (fields_of_jobs jobs.now) e) }
 {
     let mut ledger = None;

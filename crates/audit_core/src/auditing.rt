@@ -9,7 +9,7 @@ ghost use Rattle.ident_core.specs.Among.{Among};
 ghost use Rattle.universe_core.specs.History.{seen, sightings};
 ghost use Rattle.universe_core.specs.Ledgers.{ledger_of};
 ghost use Rattle.history_core.specs.Truth.{truth};
-ghost use Rattle.audit_core.specs.Auditing.{IsAuditable, fields_of_jobs, entries_of, releases_of, AreAdmitted, IsAccepted};
+ghost use Rattle.audit_core.specs.Auditing.{IsAuditable, fields_of_jobs, entries_of, left_by_jobs, AreAdmitted, IsAccepted};
 ghost use Rattle.audit_core.specs.Auditing.{Agrees, AllAgree, IsDisagreement, IsFound};
 ghost use Rattle.audit_core.specs.Checking.{IsFirstIn};
 ghost use Rattle.log_core.specs.declared.Entry.{Entry};
@@ -41,11 +41,11 @@ fn check_job(
     requires place { place < length jobs.now }
     requires entries { entries_of (fields_of_jobs jobs.now) ≤ MAX_IDENTITIES }
     requires admitted { AreAdmitted (fields_of_jobs jobs.now) (length jobs.now) }
-    requires ledger { ledger.now ≡ ledger_of (releases_of (fields_of_jobs jobs.now)) }
+    requires ledger { ledger.now ≡ ledger_of (left_by_jobs (fields_of_jobs jobs.now)) }
     ensures agree { OnOk result ((n : ℕ) (e : Entry) → IsAccepted (fields_of_jobs jobs.now) place n e
         → Agrees (map (λ s. s.part) store.now) (fields_of_jobs jobs.now) e) }
-    ensures count { IfOk result (λ n. length (seen (releases_of (take (place + 1) (fields_of_jobs jobs.now))))
-        ≡ length (seen (releases_of (take place (fields_of_jobs jobs.now)))) + n) }
+    ensures count { IfOk result (λ n. length (seen (left_by_jobs (take (place + 1) (fields_of_jobs jobs.now))))
+        ≡ length (seen (left_by_jobs (take place (fields_of_jobs jobs.now)))) + n) }
     ensures few { IfOk result (λ n. entries_of (take place (fields_of_jobs jobs.now)) + n
         ≤ entries_of (take (place + 1) (fields_of_jobs jobs.now))) }
     ensures disagree { IfErr result (λ e. IsFirstIn (map (λ s. s.part) store.now) (fields_of_jobs jobs.now) place e) }
@@ -59,9 +59,9 @@ fn check_jobs(store: &[Sealed], ledger: &Ledger, jobs: &[Job]) -> Result<u32, Au
     requires few { length jobs.now ≤ MAX_PARTS }
     requires entries { entries_of (fields_of_jobs jobs.now) ≤ MAX_IDENTITIES }
     requires admitted { AreAdmitted (fields_of_jobs jobs.now) (length jobs.now) }
-    requires ledger { ledger.now ≡ ledger_of (releases_of (fields_of_jobs jobs.now)) }
+    requires ledger { ledger.now ≡ ledger_of (left_by_jobs (fields_of_jobs jobs.now)) }
     ensures agree { OnOk result (AllAgree (map (λ s. s.part) store.now) (fields_of_jobs jobs.now)) }
-    ensures count { IfOk result (λ n. n ≡ length (seen (releases_of (fields_of_jobs jobs.now)))) }
+    ensures count { IfOk result (λ n. n ≡ length (seen (left_by_jobs (fields_of_jobs jobs.now)))) }
     ensures disagree { IfErr result (λ e. IsDisagreement (map (λ s. s.part) store.now) (fields_of_jobs jobs.now) e) }
 {
     let mut accepted = 0;
@@ -79,7 +79,7 @@ fn checked(store: &[Sealed], ledger: &Ledger, jobs: &[Job]) -> Result<Audited, A
     requires few { length jobs.now ≤ MAX_PARTS }
     requires entries { entries_of (fields_of_jobs jobs.now) ≤ MAX_IDENTITIES }
     requires admitted { AreAdmitted (fields_of_jobs jobs.now) (length jobs.now) }
-    requires ledger { ledger.now ≡ ledger_of (releases_of (fields_of_jobs jobs.now)) }
+    requires ledger { ledger.now ≡ ledger_of (left_by_jobs (fields_of_jobs jobs.now)) }
     ensures { IsFound (map (λ s. s.part) store.now) (fields_of_jobs jobs.now) result }
 {
     match check_jobs(store, ledger, jobs) {
@@ -99,8 +99,8 @@ pub fn audit(alloc: Global, store: &[Sealed], jobs: &[Job]) -> Result<Audited, A
     ensures found { IsFound (map (λ s. s.part) store.now) (fields_of_jobs jobs.now) result }
     // Where it says yes, the parts say the truth of each certificate of the history, asked with any of its sightings.
     ensures truth { OnOk result ((x : Identity) (ss : List Sighting) → 1 ≤ length ss
-        → ((s : Sighting) → Among ss s → Among (sightings x (seen (releases_of (fields_of_jobs jobs.now)))) s)
-        → verdict (map (λ s. s.part) store.now) x ss ≡ truth (releases_of (fields_of_jobs jobs.now)) x) }
+        → ((s : Sighting) → Among ss s → Among (sightings x (seen (left_by_jobs (fields_of_jobs jobs.now)))) s)
+        → verdict (map (λ s. s.part) store.now) x ss ≡ truth (left_by_jobs (fields_of_jobs jobs.now)) x) }
 {
     match ledger_after_all(alloc, jobs) {
         Ok(Some(ledger)) => checked(store, &ledger, jobs),

@@ -12,7 +12,7 @@ ghost use Rattle.history_core.specs.Truth.{truth};
 ghost use Rattle.audit_core.specs.declared.auditing.Audited.{Audited};
 ghost use Rattle.audit_core.specs.declared.fault.AuditFault.{AuditFault};
 ghost use Rattle.audit_core.specs.declared.fault.AuditFault.TheVariants.{NoMemory};
-ghost use Rattle.audit_core.specs.Auditing.{IsAuditable, entries_of, releases_of, AllAgree, IsFound};
+ghost use Rattle.audit_core.specs.Auditing.{IsAuditable, entries_of, left_by_jobs, AllAgree, IsFound};
 
 /// One sighting at a time is enough. Asked with several sightings, parts say revoked exactly where they say so with one
 /// of them alone; and they say good where they say so with each of them, of which there is one at least.
@@ -30,8 +30,8 @@ pub fn one_sighting_is_enough()
 pub fn agreement_is_enough()
     ensures { (parts : List PartFields) (jobs : List JobFields) → AllAgree parts jobs
         → (x : Identity) (ss : List Sighting) → 1 ≤ length ss
-        → ((s : Sighting) → Among ss s → Among (sightings x (seen (releases_of jobs))) s)
-        → verdict parts x ss ≡ truth (releases_of jobs) x }
+        → ((s : Sighting) → Among ss s → Among (sightings x (seen (left_by_jobs jobs))) s)
+        → verdict parts x ss ≡ truth (left_by_jobs jobs) x }
 {}
 
 /// An audit of some parts by some jobs finds one thing, if it doesn't want memory.

@@ -29,7 +29,7 @@ use Rattle.piece_core.specs.Cuts.{cut_contents}
 use Rattle.universe_core.specs.Formats.{JobIn}
 use Rattle.universe_core.specs.History.{Release, seen, sightings}
 use Rattle.history_core.specs.Truth.{truth}
-use Rattle.audit_core.specs.Auditing.{AllAgree, releases_of as audited_releases}
+use Rattle.audit_core.specs.Auditing.{AllAgree, left_by_jobs}
 use Rattle.publication_core.specs.Histories.{History, rebased, IsHistory, releases_of}
 use Rattle.cut_core.specs.Cutting.{cut_job, cut_in, IsCut}
 use Rattle.cut_core.specs.Courses.{Course, from_base, left, cut_course, course_of}
@@ -79,7 +79,7 @@ pub record Laws : Type 0 where
   pub same_truth : (cut : Cut) (rs qs : List Release) (x : Identity) → AllZip (IsCut cut) rs qs → is_kept cut x ≡ true → truth qs x ≡ truth rs x
   pub audited : (cut : Cut) (jobs : List JobFields) (parts : List PartFields) (x : Identity) (ss : List Sighting)
       → AllAgree parts (map (cut_job cut) jobs) → is_kept cut x ≡ true → 1 ≤ length ss
-      → ((s : Sighting) → Among ss s → Among (sightings x (seen (audited_releases jobs))) s) → verdict parts x ss ≡ truth (audited_releases jobs) x
+      → ((s : Sighting) → Among ss s → Among (sightings x (seen (left_by_jobs jobs))) s) → verdict parts x ss ≡ truth (left_by_jobs jobs) x
 
 -- ---- what files are read as
 

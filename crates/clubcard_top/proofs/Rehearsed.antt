@@ -12,7 +12,7 @@ use Rattle.input_core.specs.declared.fault.QueriesFault.{QueriesFault}
 use Rattle.part_text.specs.SealedFields.{SealedFields}
 use Rattle.job_core.specs.declared.bounds.TheConstants.Limits.{PUBLISHED}
 use Rattle.job_core.specs.JobFields.{JobFields}
-use Rattle.job_core.specs.JobFacts.{FitsFields}
+use Rattle.job_core.specs.Fitting.{FitsFields}
 use Rattle.job_core.specs.JobLayout.{job_of}
 use Rattle.card_core.specs.declared.verdict.Verdict.{Verdict}
 use Rattle.publication_core.specs.Histories.{chain, IsHistory}

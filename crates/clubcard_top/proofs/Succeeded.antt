@@ -16,7 +16,7 @@ use Rattle.job_core.specs.declared.bounds.TheConstants.Limits as limits
 use Rattle.job_core.specs.declared.bounds.What.TheVariants as what
 use Rattle.job_core.specs.JobFields.{JobFields}
 use Rattle.universe_core.specs.History.{seen}
-use Rattle.audit_core.specs.Auditing.{releases_of as audited_releases, AllAgree}
+use Rattle.audit_core.specs.Auditing.{left_by_jobs, AllAgree}
 use Rattle.job_core.specs.JobText.{JobContents}
 use Rattle.ledger_core.specs.LedgerFields.{LedgerFields}
 use Rattle.part_text.specs.SealedFields.{SealedFields}
@@ -409,11 +409,11 @@ module _ (call : Call) where
 
     pub audit : Truthful → (a : Audit) → (did : Did call (commands.Audit a)) → (parts : List SealedFields) × (jobs : List JobFields)
         × Reads call a.store store_in parts × ReadsJobs call a.jobs jobs × IsAudited parts jobs × SaysTheTruth parts jobs
-        × GivesDone call (audit_done jobs (record { entries = length (seen (audited_releases jobs)) }))
+        × GivesDone call (audit_done jobs (record { entries = length (seen (left_by_jobs jobs)) }))
     audit truthful a did =
         let c = came (commands.Audit a) did in
         let x = audit_done_is a (input a.store store_in (get did.files a.store)) (held_under did.files a.jobs) c.d c.makes in
-        let said = audit_done x.jobs (record { entries = length (seen (audited_releases x.jobs)) }) in (
+        let said = audit_done x.jobs (record { entries = length (seen (left_by_jobs x.jobs)) }) in (
           x.parts,
           x.jobs,
           reads did.files did.told a.store store_in x.parts x.store,
@@ -556,7 +556,7 @@ module _ (call : Call) where
     audit_complete a parts jobs asked (bytes, (files, told, held), is) job_reads few audited quiet =
         let store_is = read_in files told a.store store_in parts (bytes, (files, told, held), is) in
         let jobs_are = audit_jobs_back a.jobs (held_under files a.jobs) jobs (jobs_back files told a.jobs jobs job_reads) few audited.crls in
-        let d = audit_done jobs (record { entries = length (seen (audited_releases jobs)) }) in
+        let d = audit_done jobs (record { entries = length (seen (left_by_jobs jobs)) }) in
         sure_of (commands.Audit a) files d told asked
         (λ none. cc)
         (λ o m. subst (λ (r : Result (List SealedFields) NamedFault). MakesAudit a r (audit_jobs a.jobs (held_under files a.jobs)) (Ok d)) (sym store_is)

@@ -15,7 +15,7 @@ use Rattle.sct_core.specs.declared.bounds.TheConstants.{MAX_CERTIFICATE}
 use Rattle.sct_core.specs.Grammar.{HasSightings}
 use Rattle.job_core.specs.declared.bounds.TheConstants.Limits as limits
 use Rattle.job_core.specs.JobFields.{JobFields}
-use Rattle.job_core.specs.JobFacts.{FitsFields}
+use Rattle.job_core.specs.Fitting.{FitsFields}
 use Rattle.job_core.specs.JobLayout.{job_of}
 use Rattle.ident_core.specs.Among.{Among}
 use Rattle.universe_core.specs.Formats.{in_format}

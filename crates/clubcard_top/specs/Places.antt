@@ -15,7 +15,7 @@ use Rattle.job_core.specs.JobMeaning.{reading_of}
 use Rattle.universe_core.specs.Formats.{JobIn}
 use Rattle.universe_core.specs.History.{seen, sightings}
 use Rattle.history_core.specs.Truth.{truth}
-use Rattle.audit_core.specs.Auditing.{releases_of as audited_releases}
+use Rattle.audit_core.specs.Auditing.{left_by_jobs}
 use Rattle.publication_core.specs.Histories.{History, rebased, IsHistory}
 use Rattle.place_core.specs.Cuts.{Cut, is_kept, everything}
 use Rattle.cut_core.specs.Cutting.{cut_in}
@@ -74,5 +74,5 @@ IsCutOf cut whole h parts = IsHistory h parts × ((course_of h ≡ cut_course cu
 abbrev pub SaysTheWholeTruth : Cut → List SealedFields → List JobFields → Type 0
 SaysTheWholeTruth cut parts jobs =
     (x : Identity) (ss : List Sighting) → is_kept cut x ≡ true → 1 ≤ length ss
-    → ((s : Sighting) → Among ss s → Among (sightings x (seen (audited_releases jobs))) s)
-    → verdict (map (λ s. s.part) parts) x ss ≡ truth (audited_releases jobs) x
+    → ((s : Sighting) → Among ss s → Among (sightings x (seen (left_by_jobs jobs))) s)
+    → verdict (map (λ s. s.part) parts) x ss ≡ truth (left_by_jobs jobs) x

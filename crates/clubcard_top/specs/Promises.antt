@@ -22,7 +22,7 @@ use Rattle.ident_core.specs.Among.{Among}
 use Rattle.store_core.specs.Chain.{refusal_of}
 use Rattle.card_core.specs.declared.verdict.Verdict.TheVariants.{NotEnrolled}
 use Rattle.universe_core.specs.History.{seen}
-use Rattle.audit_core.specs.Auditing.{releases_of as audited_releases}
+use Rattle.audit_core.specs.Auditing.{left_by_jobs}
 use Rattle.publication_core.specs.Formats.{current}
 use Rattle.publication_core.specs.Histories.{IsAdmissible, History, with_job, chain, IsHistory, releases_of, LeavesOut}
 use Rattle.cut_core.specs.Cutting.{cut_job}
@@ -163,7 +163,7 @@ pub record Successes (call : Call) : Type 0 where
   -- within the limits of one, their CRLs are accepted, and all that is so, the call must succeed
   pub audit : (a : Audit) → Did call (commands.Audit a) → (parts : List SealedFields) × (jobs : List JobFields)
       × Reads call a.store store_in parts × ReadsJobs call a.jobs jobs × IsAudited parts jobs × SaysTheTruth parts jobs
-      × GivesDone call (only (audit_line (length jobs) (length (seen (audited_releases jobs)))))
+      × GivesDone call (only (audit_line (length jobs) (length (seen (left_by_jobs jobs)))))
   pub audit_complete : (a : Audit) (parts : List SealedFields) (jobs : List JobFields)
       → call.asked ≡ commands.Audit a → Reads call a.store store_in parts → ReadsJobs call a.jobs jobs
       → AreWithinLimits jobs → IsAudited parts jobs → MustSucceed call

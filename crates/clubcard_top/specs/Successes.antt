@@ -10,7 +10,7 @@ use Rattle.job_core.specs.JobFields.{JobFields}
 use Rattle.ident_core.specs.Among.{Among}
 use Rattle.universe_core.specs.History.{seen, sightings}
 use Rattle.history_core.specs.Truth.{truth}
-use Rattle.audit_core.specs.Auditing.{releases_of as audited_releases}
+use Rattle.audit_core.specs.Auditing.{left_by_jobs}
 use Rattle.input_core.specs.declared.fault.FileFault.{FileFault}
 use Rattle.input_core.specs.Readings.{job_in, part_in}
 use Rattle.clubcard_top.specs.Calls.{Call, Reads}
@@ -35,5 +35,5 @@ ReadsJobs call names jobs = AllZip (λ name job. Reads call name job_in job) nam
 abbrev pub SaysTheTruth : List SealedFields → List JobFields → Type 0
 SaysTheTruth parts jobs =
     (x : Identity) (ss : List Sighting) → 1 ≤ length ss
-    → ((s : Sighting) → Among ss s → Among (sightings x (seen (audited_releases jobs))) s)
-    → verdict (map (λ s. s.part) parts) x ss ≡ truth (audited_releases jobs) x
+    → ((s : Sighting) → Among ss s → Among (sightings x (seen (left_by_jobs jobs))) s)
+    → verdict (map (λ s. s.part) parts) x ss ≡ truth (left_by_jobs jobs) x

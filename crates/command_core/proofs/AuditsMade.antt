@@ -21,7 +21,7 @@ use Rattle.universe_core.specs.declared.fault.AdmitFault.{AdmitFault}
 use Rattle.audit_core.specs.declared.auditing.Audited.{Audited}
 use Rattle.audit_core.specs.declared.fault.AuditFault.{AuditFault}
 use Rattle.audit_core.specs.declared.fault.AuditFault.TheVariants as audits
-use Rattle.audit_core.specs.Auditing.{releases_of, entries_of, AreAdmitted, AllAgree, IsFound}
+use Rattle.audit_core.specs.Auditing.{left_by_jobs, entries_of, AreAdmitted, AllAgree, IsFound}
 use Rattle.word_core.specs.declared.command.Audit.{Audit}
 use Rattle.input_core.specs.declared.fault.FileFault.{FileFault}
 use Rattle.input_core.specs.declared.fault.FileFault.TheVariants as faults
@@ -238,11 +238,11 @@ pub record IsDone (a : Audit) (r : Result (List SealedFields) NamedFault) (input
   pub store : r ≡ Ok parts
   pub are : AreJobs a.jobs inputs jobs
   pub audited : IsAudited parts jobs
-  pub said : d ≡ audit_done jobs (record { entries = length (seen (releases_of jobs)) })
+  pub said : d ≡ audit_done jobs (record { entries = length (seen (left_by_jobs jobs)) })
 
 found_done : (a : Audit) (parts : List SealedFields) (jobs : List JobFields) (result : Result Audited AuditFault) (d : Done)
     → IsFound (map (λ (s : SealedFields). s.part) parts) jobs result → Ok d ≡ audited_as a jobs result
-    → AreAdmitted jobs (length jobs) × AllAgree (map (λ (s : SealedFields). s.part) parts) jobs × (d ≡ audit_done jobs (record { entries = length (seen (releases_of jobs)) }))
+    → AreAdmitted jobs (length jobs) × AllAgree (map (λ (s : SealedFields). s.part) parts) jobs × (d ≡ audit_done jobs (record { entries = length (seen (left_by_jobs jobs)) }))
 found_done a parts jobs (Ok found) d is h =
     (is.0, is.1, ok_same {E = NamedFault} d (audit_done jobs found) h ∙ ap (λ (n : ℕ). audit_done jobs (record { entries = n })) is.2)
 found_done a parts jobs (Err fault) d is h = absurd (not_err d (of_audit a fault) h)
@@ -269,10 +269,10 @@ audit_done_is a r inputs d m = done_by a r inputs (audit_jobs a.jobs inputs) d r
 
 -- and back
 pub audit_makes : (a : Audit) (parts : List SealedFields) (jobs : List JobFields) → IsAudited parts jobs
-    → MakesAudit a (Ok parts) (Ok jobs) (Ok (audit_done jobs (record { entries = length (seen (releases_of jobs)) })))
+    → MakesAudit a (Ok parts) (Ok jobs) (Ok (audit_done jobs (record { entries = length (seen (left_by_jobs jobs)) })))
 audit_makes a parts jobs i = record {
-  result = Ok (record { entries = length (seen (releases_of jobs)) });
+  result = Ok (record { entries = length (seen (left_by_jobs jobs)) });
   found = (i.admitted, i.agree, refl);
-  settled = λ h. not_err (record { entries = length (seen (releases_of jobs)) }) audits.NoMemory h;
+  settled = λ h. not_err (record { entries = length (seen (left_by_jobs jobs)) }) audits.NoMemory h;
   is = refl;
 }

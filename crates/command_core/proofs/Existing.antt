@@ -10,7 +10,7 @@ use Rattle.part_text.specs.SealedFields.{SealedFields}
 use Rattle.job_core.specs.declared.bounds.Limits.{Limits}
 use Rattle.job_core.specs.declared.bounds.TheConstants.Limits.{PUBLISHED}
 use Rattle.job_core.specs.JobFields.{CrlMeaning, JobFields}
-use Rattle.job_core.specs.JobFacts.{FitsFields, FitsPublishing, IsWithinLimits}
+use Rattle.job_core.specs.Fitting.{FitsFields, FitsPublishing, IsWithinLimits}
 use Rattle.job_core.specs.JobLayout.{job_of}
 use Rattle.place_core.specs.Cuts.{Cut}
 use Rattle.ledger_core.specs.LedgerFields.{LedgerFields}

@@ -6,7 +6,7 @@ use Rattle.std.proofs.lemmas.List.Elements.{All-nil, All-cons, All-head, All-tai
 use Rattle.input_core.specs.Queries.{Query}
 use Rattle.part_text.specs.SealedFields.{SealedFields}
 use Rattle.job_core.specs.JobFields.{JobFields}
-use Rattle.job_core.specs.JobFacts.{FitsFields}
+use Rattle.job_core.specs.Fitting.{FitsFields}
 use Rattle.publication_core.specs.Histories.{chain, IsHistory}
 use Rattle.publication_core.proofs.Unique.{history_unique}
 use Rattle.input_core.specs.Inputs.{Inputs, rest_of}

@@ -12,7 +12,7 @@ use Rattle.input_core.specs.Queries.{Query}
 use Rattle.job_core.specs.declared.bounds.TheConstants.Limits.{PUBLISHED}
 use Rattle.job_core.specs.JobText.{JobContents}
 use Rattle.job_core.specs.JobFields.{JobFields}
-use Rattle.job_core.specs.JobFacts.{FitsFields, IsWithinLimits}
+use Rattle.job_core.specs.Fitting.{FitsFields, IsWithinLimits}
 use Rattle.place_core.specs.Cuts.{Cut}
 use Rattle.ledger_core.specs.LedgerFields.{LedgerFields}
 use Rattle.universe_core.specs.Ledgers.{no_ledger}

@@ -4,7 +4,7 @@ use Rattle.ident_core.specs.Coverage.{RangesFit}
 use Rattle.outside_core.specs.Files.{Files}
 use Rattle.job_core.specs.declared.bounds.TheConstants.Limits as limits
 use Rattle.job_core.specs.JobFields.{JobFields}
-use Rattle.job_core.specs.JobFacts.{IsWithinLimits}
+use Rattle.job_core.specs.Fitting.{IsWithinLimits}
 use Rattle.audit_core.specs.declared.fault.AuditFault.{AuditFault}
 use Rattle.audit_core.specs.declared.fault.AuditFault.TheVariants as audits
 use Rattle.audit_core.specs.Auditing.{entries_of}

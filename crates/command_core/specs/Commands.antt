@@ -9,7 +9,7 @@ use Rattle.input_core.specs.Queries.{Query}
 use Rattle.sample_core.specs.Sample.{sample_text, sample_revoked}
 use Rattle.job_core.specs.declared.bounds.TheConstants.Limits as limits
 use Rattle.job_core.specs.JobFields.{JobFields}
-use Rattle.job_core.specs.JobFacts.{FitsFields, IsWithinLimits}
+use Rattle.job_core.specs.Fitting.{FitsFields, IsWithinLimits}
 use Rattle.ledger_core.specs.LedgerFields.{LedgerFields}
 use Rattle.universe_core.specs.Formats.{in_format}
 use Rattle.universe_core.specs.Jobs.{facts_of}

@@ -4,7 +4,7 @@ use Rattle.outside_core.specs.Files.{Files}
 use Rattle.input_core.specs.Queries.{Query}
 use Rattle.part_text.specs.SealedFields.{SealedFields}
 use Rattle.job_core.specs.JobFields.{JobFields}
-use Rattle.job_core.specs.JobFacts.{FitsFields}
+use Rattle.job_core.specs.Fitting.{FitsFields}
 use Rattle.universe_core.specs.Formats.{in_format}
 use Rattle.publication_core.specs.Formats.{current}
 use Rattle.publication_core.specs.Histories.{History, of_jobs, with_job}

@@ -3,7 +3,7 @@ use Rattle.std.specs.Prelude.{◌≡◌, ◌⊎◌, ℕ, List, [], ◌∷◌, �
 use Rattle.input_core.specs.Queries.{Query}
 use Rattle.part_text.specs.SealedFields.{SealedFields}
 use Rattle.job_core.specs.JobFields.{JobFields}
-use Rattle.job_core.specs.JobFacts.{FitsFields}
+use Rattle.job_core.specs.Fitting.{FitsFields}
 use Rattle.publication_core.specs.Histories.{chain, IsHistory}
 use Rattle.command_core.specs.ReplyFields.{Done, NamedFault}
 use Rattle.input_core.specs.Inputs.{Inputs, rest_of}

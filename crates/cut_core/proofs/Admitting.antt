@@ -11,7 +11,7 @@ use Rattle.ident_core.specs.Coverage.{LiesWithin}
 use Rattle.job_core.specs.declared.bounds.Limits.{Limits}
 use Rattle.job_core.specs.declared.bounds.TheConstants.Limits.{PUBLISHED}
 use Rattle.job_core.specs.JobFields.{CrlMeaning, JobFields}
-use Rattle.job_core.specs.JobFacts.{EntryFieldsFit, FitsPublishing, IsWithinLimits}
+use Rattle.job_core.specs.Fitting.{EntryFieldsFit, FitsPublishing, IsWithinLimits}
 use Rattle.job_core.specs.JobLayout.{kept}
 use Rattle.job_core.specs.JobMeaning.{kept_in}
 use Rattle.universe_core.specs.Jobs.{Entry}

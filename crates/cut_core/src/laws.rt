@@ -9,7 +9,7 @@ ghost use Rattle.ident_core.specs.Sets.{has, has_key};
 ghost use Rattle.part_text.specs.SealedFields.{SealedFields};
 ghost use Rattle.job_core.specs.declared.bounds.TheConstants.Limits.{PUBLISHED};
 ghost use Rattle.job_core.specs.JobFields.{JobFields};
-ghost use Rattle.job_core.specs.JobFacts.{FitsPublishing, IsWithinLimits};
+ghost use Rattle.job_core.specs.Fitting.{FitsPublishing, IsWithinLimits};
 ghost use Rattle.universe_core.specs.Jobs.{Entry, JobFacts};
 ghost use Rattle.universe_core.specs.Formats.{JobIn, facts_in};
 ghost use Rattle.universe_core.specs.Dates.{until};

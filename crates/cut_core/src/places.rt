@@ -16,7 +16,7 @@ ghost use Rattle.universe_core.specs.Formats.{JobIn};
 ghost use Rattle.universe_core.specs.History.{seen, sightings};
 ghost use Rattle.history_core.specs.Truth.{truth};
 ghost use Rattle.publication_core.specs.Histories.{History, rebased, IsHistory, releases_of};
-ghost use Rattle.audit_core.specs.Auditing.{AllAgree, releases_of as audited_of};
+ghost use Rattle.audit_core.specs.Auditing.{AllAgree, left_by_jobs};
 ghost use Rattle.cut_core.specs.Courses.{Course, from_base, left, course_of};
 ghost use Rattle.piece_core.specs.Cuts.{entry_place};
 ghost use Rattle.cut_core.specs.InPlaces.{job_at, in_at, course_at, AddUp};
@@ -63,8 +63,8 @@ pub fn places_say_the_truth()
         → verdict (map (λ s. s.part) parts) x ss ≡ truth (left (from_base (course_of whole) moment everything jobs)) x }
     ensures audited { (by : By) (count : ℕ) (jobs : List JobFields) (x : Identity) (parts : List PartFields)
         (ss : List Sighting) → AllAgree parts (map (job_at by count (place_in by count x)) jobs) → 1 ≤ length ss
-        → ((s : Sighting) → Among ss s → Among (sightings x (seen (audited_of jobs))) s)
-        → verdict parts x ss ≡ truth (audited_of jobs) x }
+        → ((s : Sighting) → Among ss s → Among (sightings x (seen (left_by_jobs jobs))) s)
+        → verdict parts x ss ≡ truth (left_by_jobs jobs) x }
 {}
 
 /// What a job has of each behind a course is what the jobs of the places have of each together, behind theirs; but

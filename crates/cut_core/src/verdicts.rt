@@ -14,7 +14,7 @@ ghost use Rattle.universe_core.specs.Formats.{JobIn, facts_in};
 ghost use Rattle.universe_core.specs.History.{seen, sightings, birth, is_listed};
 ghost use Rattle.history_core.specs.Truth.{truth};
 ghost use Rattle.publication_core.specs.Histories.{History, of_jobs, rebased, IsHistory, releases_of};
-ghost use Rattle.audit_core.specs.Auditing.{AllAgree, releases_of as audited_of};
+ghost use Rattle.audit_core.specs.Auditing.{AllAgree, left_by_jobs};
 ghost use Rattle.place_core.specs.Cuts.{Cut, is_kept, everything};
 ghost use Rattle.cut_core.specs.Cutting.{cut_job, cut_in};
 ghost use Rattle.cut_core.specs.Courses.{Course, from_jobs, from_base, left, cut_course, course_of};
@@ -38,8 +38,8 @@ pub fn cut_parts_say_the_truth()
         → verdict (map (λ s. s.part) parts) x ss ≡ truth (releases_of whole old) x }
     ensures audited { (cut : Cut) (jobs : List JobFields) (parts : List PartFields) (x : Identity)
         (ss : List Sighting) → AllAgree parts (map (cut_job cut) jobs) → is_kept cut x ≡ true → 1 ≤ length ss
-        → ((s : Sighting) → Among ss s → Among (sightings x (seen (audited_of jobs))) s)
-        → verdict parts x ss ≡ truth (audited_of jobs) x }
+        → ((s : Sighting) → Among ss s → Among (sightings x (seen (left_by_jobs jobs))) s)
+        → verdict parts x ss ≡ truth (left_by_jobs jobs) x }
     ensures split { (cut : Cut) (whole : History) (old : List SealedFields) (moment : ℕ) (jobs : List JobIn)
         (parts : List SealedFields) (x : Identity) (ss : List Sighting)
         → IsHistory (rebased whole old moment cut (map (cut_in cut) jobs)) parts → is_kept cut x ≡ true → 1 ≤ length ss

@@ -5,7 +5,7 @@ ghost use Rattle.outside_core.specs.Effects.{OnlyReads};
 ghost use Rattle.outside_core.specs.Filling.{IsInOrder};
 ghost use Rattle.outside_core.specs.Standing.{reference_of, depot_of, name_of, place_of};
 ghost use Rattle.job_core.specs.JobFields.{fields_of_job};
-ghost use Rattle.job_core.specs.JobFacts.{FitsFields, IsWithinLimits};
+ghost use Rattle.job_core.specs.Fitting.{FitsFields, IsWithinLimits};
 ghost use Rattle.outside_core.specs.Reads.{WhichFailed};
 ghost use Rattle.input_core.specs.Inputs.{IsInput};
 ghost use Rattle.input_core.specs.Readings.{job_in as job_of};

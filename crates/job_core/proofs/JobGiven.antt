@@ -18,14 +18,14 @@ use Rattle.outside_core.proofs.Feeding.{windowed}
 use Rattle.job_core.specs.declared.bounds.Limits.{Limits}
 use Rattle.job_core.specs.declared.fault.JobFault.{JobFault}
 use Rattle.job_core.specs.declared.fault.JobFault.TheVariants as faults
-use Rattle.job_core.specs.JobFacts.{FitsFields, IsWithinLimits}
+use Rattle.job_core.specs.Fitting.{FitsFields, IsWithinLimits}
 use Rattle.job_core.specs.JobFields.{JobFields}
 use Rattle.job_core.specs.JobLayout.{fielded, opening, begun, job_of}
 use Rattle.job_core.specs.Partial.{records_saying}
 use Rattle.outside_core.specs.Pulling.{Pulled}
 use Rattle.job_core.specs.Pulling.{IsOfBytes, Blames, Comes, Lies, Fetches, SeesMore, ReadsJob}
 use Rattle.job_core.proofs.Given.{lies-first, lies-both, lies-last, lies-self, lies-whole}
-use Rattle.job_core.proofs.JobFacts.{within-read}
+use Rattle.job_core.proofs.Fitting.{within-read}
 use Rattle.job_core.proofs.ReadFacts.{job-fits}
 use Rattle.job_core.proofs.Saying.{opening-fails, records-fail, end-comes, job-says}
 

@@ -13,7 +13,7 @@ pub mod Fetched
 pub mod Gathering
 pub mod JobGiven
 pub mod Steps
-pub mod JobFacts
+pub mod Fitting
 pub mod ReadFacts
 pub mod JobStanding
 pub mod FitsGiven

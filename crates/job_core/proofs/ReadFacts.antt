@@ -25,8 +25,8 @@ use Rattle.job_core.specs.JobFields.{JobFields}
 use Rattle.job_core.specs.JobLayout.{CrlText, EntryText, job_of}
 use Rattle.job_core.specs.JobText.{JobContents, FitsEntry, range_record, crl_record, entry_record, spelling}
 use Rattle.job_core.specs.JobMeaning.{crl_meaning, entry_meaning, meaning_of, kept_in}
-use Rattle.job_core.specs.JobFacts.{EntryFieldsFit, FitsFields}
-use Rattle.job_core.proofs.JobFacts.{fits-read}
+use Rattle.job_core.specs.Fitting.{EntryFieldsFit, FitsFields}
+use Rattle.job_core.proofs.Fitting.{fits-read}
 use Rattle.job_core.proofs.JobSpelled.{read-spelled}
 
 -- ---- the bytes of a text

@@ -6,5 +6,5 @@ pub mod Offsets
 pub mod JobText
 pub mod Records
 pub mod JobMeaning
-pub mod JobFacts
+pub mod Fitting
 pub mod Reader

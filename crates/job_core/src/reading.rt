@@ -9,7 +9,7 @@ ghost use Rattle.log_core.specs.Entries.{entry_of};
 ghost use Rattle.octets_core.specs.Reading.{GivesUnless};
 ghost use Rattle.job_core.specs.JobText.{JobContents, FitsJob, spelling};
 ghost use Rattle.job_core.specs.JobMeaning.{reading_of};
-ghost use Rattle.job_core.specs.JobFacts.{FitsFields, IsWithinLimits};
+ghost use Rattle.job_core.specs.Fitting.{FitsFields, IsWithinLimits};
 ghost use Rattle.job_core.specs.Offsets.{offset_in_job};
 
 use crate::bounds::{Limits, What};

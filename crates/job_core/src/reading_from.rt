@@ -5,7 +5,7 @@ ghost use Rattle.outside_core.specs.Filling.{IsInOrder};
 ghost use Rattle.outside_core.specs.Standing.{place_of, StandsIn};
 ghost use Rattle.crl_core.specs.Outcome.{CrlFieldsFit};
 ghost use Rattle.job_core.specs.JobFields.{crl_view, fields_of_job, AreWithin};
-ghost use Rattle.job_core.specs.JobFacts.{EntryFieldsFit, FitsFields, IsWithinLimits};
+ghost use Rattle.job_core.specs.Fitting.{EntryFieldsFit, FitsFields, IsWithinLimits};
 ghost use Rattle.job_core.specs.JobLayout.{OneEntry, begun, job_of, saying_one};
 ghost use Rattle.job_core.specs.JobText.{entry_held};
 ghost use Rattle.job_core.specs.Partial.{records_saying};

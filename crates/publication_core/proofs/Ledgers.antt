@@ -22,7 +22,7 @@ use Rattle.part_text.specs.SealedFields.{SealedFields}
 use Rattle.part_text.specs.PartText.{unsealed_text}
 use Rattle.job_core.specs.declared.bounds.TheConstants.Limits.{PUBLISHED}
 use Rattle.job_core.specs.JobFields.{CrlMeaning, JobFields}
-use Rattle.job_core.specs.JobFacts.{EntryFieldsFit, FitsPublishing}
+use Rattle.job_core.specs.Fitting.{EntryFieldsFit, FitsPublishing}
 use Rattle.ledger_core.specs.declared.fault.LedgerFault.TheVariants as ledger_faults
 use Rattle.ledger_core.specs.declared.fields.LedgerItem.{LedgerItem}
 use Rattle.ledger_core.specs.LedgerFields.{LedgerPartFields, LedgerFields, IsLedger, ids, newest}

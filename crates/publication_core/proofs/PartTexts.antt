@@ -22,7 +22,7 @@ use Rattle.card_core.specs.declared.block.Block.{Block}
 use Rattle.part_text.specs.SealedFields.{SealedFields}
 use Rattle.part_text.specs.Fitting.{FitsBlock, FitsHead, Fits}
 use Rattle.job_core.specs.JobFields.{CrlMeaning, JobFields}
-use Rattle.job_core.specs.JobFacts.{FitsPublishing}
+use Rattle.job_core.specs.Fitting.{FitsPublishing}
 use Rattle.ledger_core.specs.LedgerFields.{LedgerPartFields, IsPartAfter, newest}
 use Rattle.ledger_core.specs.Fitting.{IsKey, PartFits}
 use Rattle.ledger_core.specs.Fitting.{Fits as LedgerFits}

@@ -7,7 +7,7 @@ use Rattle.part_text.specs.SealedFields.{SealedFields}
 use Rattle.part_text.specs.PartText.{unsealed_text}
 use Rattle.job_core.specs.declared.bounds.TheConstants.Limits.{PUBLISHED}
 use Rattle.job_core.specs.JobFields.{JobFields}
-use Rattle.job_core.specs.JobFacts.{FitsPublishing, IsWithinLimits}
+use Rattle.job_core.specs.Fitting.{FitsPublishing, IsWithinLimits}
 use Rattle.universe_core.specs.Jobs.{facts_of}
 use Rattle.universe_core.specs.Formats.{in_format}
 use Rattle.universe_core.specs.History.{Release, past_of}

@@ -6,7 +6,7 @@ use Rattle.std.proofs.lemmas.Bool.{true≢false}
 use Rattle.std.proofs.lemmas.List.Elements.{All-map, All-head, All-tail}
 use Rattle.ident_core.specs.declared.identity.Identity.{Identity}
 use Rattle.part_text.specs.SealedFields.{SealedFields}
-use Rattle.job_core.specs.JobFacts.{EntryFieldsFit, FitsPublishing}
+use Rattle.job_core.specs.Fitting.{EntryFieldsFit, FitsPublishing}
 use Rattle.ledger_core.specs.declared.fields.LedgerItem.{LedgerItem}
 use Rattle.ledger_core.specs.LedgerText.{HasNoDates}
 use Rattle.ident_core.specs.Among.{Among}

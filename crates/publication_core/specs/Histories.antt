@@ -6,7 +6,7 @@ use Rattle.part_text.specs.SealedFields.{SealedFields}
 use Rattle.part_text.specs.PartText.{spelling}
 use Rattle.job_core.specs.declared.bounds.TheConstants.Limits.{PUBLISHED}
 use Rattle.job_core.specs.JobFields.{JobFields}
-use Rattle.job_core.specs.JobFacts.{FitsPublishing, IsWithinLimits}
+use Rattle.job_core.specs.Fitting.{FitsPublishing, IsWithinLimits}
 use Rattle.ident_core.specs.declared.bounds.TheConstants.{MAX_ISSUERS, MAX_PARTS}
 use Rattle.ledger_core.specs.LedgerText.{ledger_text, old_ledger_text}
 use Rattle.ident_core.specs.Among.{Among}

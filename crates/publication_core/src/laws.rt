@@ -4,7 +4,7 @@ ghost use Rattle.std.specs.Prelude.{◌≡◌, ◌++◌, ◌∷◌, [], List, No
 ghost use Rattle.part_text.specs.SealedFields.{SealedFields};
 ghost use Rattle.job_core.specs.declared.bounds.TheConstants.Limits.{PUBLISHED};
 ghost use Rattle.job_core.specs.JobFields.{JobFields};
-ghost use Rattle.job_core.specs.JobFacts.{FitsPublishing, IsWithinLimits};
+ghost use Rattle.job_core.specs.Fitting.{FitsPublishing, IsWithinLimits};
 ghost use Rattle.ledger_core.specs.LedgerFields.{LedgerFields};
 ghost use Rattle.universe_core.specs.Jobs.{facts_of};
 ghost use Rattle.universe_core.specs.Formats.{JobIn, in_format};

@@ -5,7 +5,7 @@ ghost use Rattle.std.specs.List.Sorted.{IsStrictlySortedBy};
 ghost use Rattle.ident_core.specs.declared.bounds.TheConstants.{MAX_WORKERS};
 ghost use Rattle.ident_core.specs.Order.{octets_cmp};
 ghost use Rattle.job_core.specs.JobFields.{fields_of_job};
-ghost use Rattle.job_core.specs.JobFacts.{FitsPublishing, IsWithinLimits};
+ghost use Rattle.job_core.specs.Fitting.{FitsPublishing, IsWithinLimits};
 ghost use Rattle.equation_core.specs.Rows.{sha256_row};
 ghost use Rattle.ledger_core.specs.LedgerFields.{sealed_with};
 ghost use Rattle.universe_core.specs.Groups.{group_fields, IsGroup};

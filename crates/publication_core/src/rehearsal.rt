@@ -3,7 +3,7 @@
 ghost use Rattle.std.specs.Prelude.{◌≡◌, ◌≢◌, ◌≤◌, [], Err, IfOk, IfErr, IfSome, IsNone};
 ghost use Rattle.ident_core.specs.declared.bounds.TheConstants.{MAX_WORKERS};
 ghost use Rattle.job_core.specs.JobFields.{fields_of_job};
-ghost use Rattle.job_core.specs.JobFacts.{FitsPublishing, IsWithinLimits};
+ghost use Rattle.job_core.specs.Fitting.{FitsPublishing, IsWithinLimits};
 ghost use Rattle.universe_core.specs.Ledgers.{no_ledger, ledger_of};
 ghost use Rattle.publication_core.specs.Histories.{History, of_jobs, releases_of};
 ghost use Rattle.publication_core.specs.Publishing.{Publishes};

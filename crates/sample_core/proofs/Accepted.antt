@@ -12,7 +12,7 @@ use Rattle.job_core.specs.declared.bounds.TheConstants.Limits.{PUBLISHED}
 use Rattle.job_core.specs.JobFields.{CrlMeaning}
 use Rattle.job_core.specs.JobLayout.{kept}
 use Rattle.job_core.specs.JobMeaning.{crl_meaning, entry_meaning, meaning_of, kept_in, reading_of}
-use Rattle.job_core.specs.JobFacts.{IsWithinLimits}
+use Rattle.job_core.specs.Fitting.{IsWithinLimits}
 use Rattle.sample_core.specs.Sample.{serial_of, is_listed, is_listed_by, crl, entry, entries_of, sample_contents, sample_revoked}
 use Rattle.sample_core.specs.Accepted.{listed_serials}
 use Rattle.sample_core.proofs.Texts.{single}

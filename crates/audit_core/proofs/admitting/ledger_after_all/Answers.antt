@@ -11,7 +11,7 @@ use Rattle.universe_core.specs.Ledgers.{ledger_or_none, ledger_of, next_ledger}
 use Rattle.universe_core.specs.Step.{refusal}
 use Rattle.history_core.proofs.Ledger.{next_is}
 use Rattle.audit_core.specs.Admitting.{as_audit_fault, IsRefusal}
-use Rattle.audit_core.specs.Auditing.{releases_of, refusal_behind}
+use Rattle.audit_core.specs.Auditing.{left_by_jobs, refusal_behind}
 use Rattle.audit_core.proofs.Checks.{below_or_at}
 use Rattle.audit_core.proofs.Jobs.{history_at, history_sound}
 use Rattle.audit_core.proofs.Knowing.{mapped_at, auditable_at}
@@ -58,7 +58,7 @@ loop-job-preserved c =
     record {
       place = omega (arith, c.loop-job.invariant.place);
       ledger = c.in-Ok.ensures.next ∙ ap (λ l. next_ledger l (facts_of job) zero_key) c.loop-job.invariant.ledger
-          ∙ next_is (releases_of (take i jobs)) sound (facts_of job) zero_key ∙ ap ledger_of (sym (history_at jobs i job at));
+          ∙ next_is (left_by_jobs (take i jobs)) sound (facts_of job) zero_key ∙ ap ledger_of (sym (history_at jobs i job at));
       admitted = λ j other below h. ⊎_elim (λ b. c.loop-job.invariant.admitted j other b h)
           (λ q.
           let same : job ≡ other = some_item job other (sym at ∙ subst (λ k. slice_get jobs k ≡ Some other) q h) in

@@ -3,7 +3,7 @@ use Rattle.std.proofs.lemmas.List.{length-map, take_all}
 use Rattle.std.proofs.lemmas.Option.{slice_get_within}
 use Rattle.job_core.specs.JobFields.{fields_of_job}
 use Rattle.universe_core.specs.History.{seen}
-use Rattle.audit_core.specs.Auditing.{releases_of, IsAccepted}
+use Rattle.audit_core.specs.Auditing.{left_by_jobs, IsAccepted}
 use Rattle.audit_core.proofs.Checks.{below_or_at}
 use Rattle.audit_core.proofs.Findings.{seen-none, disagreement_is}
 use Rattle.audit_core.proofs.auditing.check_jobs.Goals as goal
@@ -33,4 +33,4 @@ pub returns-clause-count : goal.returns-clause-count
 returns-clause-count c =
     let m = length-map c.args.jobs.now fields_of_job in
     c.loop-place.invariant.accepted
-    ∙ ap (λ l. length (seen (releases_of l))) (take_all c.loop-place.place (map fields_of_job c.args.jobs.now) (omega (arith, m, c.loop-place-test.false)))
+    ∙ ap (λ l. length (seen (left_by_jobs l))) (take_all c.loop-place.place (map fields_of_job c.args.jobs.now) (omega (arith, m, c.loop-place-test.false)))

@@ -1,4 +1,4 @@
-use Rattle.job_core.proofs.JobFacts.{within-read}
+use Rattle.job_core.proofs.Fitting.{within-read}
 use Rattle.job_core.proofs.ReadFacts.{job-fits}
 use Rattle.job_core.proofs.read_facts.jobs_that_are_read_fit.Goals as goal
 

@@ -2,7 +2,7 @@ use Rattle.std.proofs.Common.{arith}
 use Rattle.job_core.specs.JobFields.{fields_of_job}
 use Rattle.job_core.proofs.JobBounds.{at-of, never-of}
 use Rattle.job_core.proofs.JobSpelled.{found-of}
-use Rattle.job_core.proofs.JobFacts.{within-of}
+use Rattle.job_core.proofs.Fitting.{within-of}
 use Rattle.job_core.proofs.ReadFacts.{fits-of}
 use Rattle.job_core.proofs.reading.read_job.Goals as goal
 

@@ -16,7 +16,7 @@ use Rattle.job_core.specs.JobLayout.{job_of}
 use Rattle.job_core.specs.JobText.{JobContents, FitsJob}
 use Rattle.job_core.specs.JobMeaning.{crl_meaning, entry_meaning, meaning_of, kept_in}
 use Rattle.crl_core.specs.Outcome.{CrlFieldsFit}
-use Rattle.job_core.specs.JobFacts.{EntryFieldsFit, FitsPublishing, FitsFields, IsWithinLimits}
+use Rattle.job_core.specs.Fitting.{EntryFieldsFit, FitsPublishing, FitsFields, IsWithinLimits}
 use Rattle.job_core.proofs.JobSpelled.{read-spelled}
 
 read-by : (b : Bool) (e : JobFault) (m f : JobFields) → (if b then Ok m else Err e) ≡ Ok f → (b ≡ true) × (m ≡ f)
