@@ -18,9 +18,10 @@ from pathlib import Path
 HERE = Path(__file__).resolve().parent
 sys.path[:0] = [str(HERE.parent), str(HERE.parent / "python")]
 
+from clubcard.places import WHOLE  # noqa: E402
 from clubcard.placing import digest_of, make_folder, place, settle  # noqa: E402
 from fleet.made import File  # noqa: E402
-from fleet.plan import MOST_NAMES, PUBLISHED, WHOLE  # noqa: E402
+from fleet.plan import MOST_NAMES, PUBLISHED  # noqa: E402
 
 
 def adopt(folder: Path, files: dict[str, Path]) -> None:

@@ -26,10 +26,10 @@ HERE = Path(__file__).resolve().parent
 sys.path[:0] = [str(HERE.parent), str(HERE.parent / "tools"), str(HERE.parent / "python")]
 
 from clubcard.answers import Verdict  # noqa: E402
-from clubcard.places import By  # noqa: E402
+from clubcard.places import By, number_name  # noqa: E402
 from clubcard.store import Store, place  # noqa: E402
 from fleet import slurm_test as slurm  # noqa: E402
-from fleet.plan import PUBLISHED, number_name  # noqa: E402
+from fleet.plan import PUBLISHED  # noqa: E402
 from fleet.tests.made_epochs import LOGS, MOST, World  # noqa: E402
 from fleet.tests.sized_epochs import (  # noqa: E402
     AGAIN,
