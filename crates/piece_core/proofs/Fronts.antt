@@ -5,7 +5,7 @@ use Rattle.std.proofs.lemmas.List.{append_cancel_right, append-nil}
 use Rattle.job_core.specs.declared.bounds.TheConstants.Limits as limits
 use Rattle.job_core.specs.declared.reader.Stage.TheVariants as stages
 use Rattle.job_core.specs.JobLayout.{Item, HeldSoFar}
-use Rattle.job_core.specs.JobText.{JobContents, opening_text, record_text, spelling}
+use Rattle.job_core.specs.JobText.{JobContents, opening_text, record_text}
 use Rattle.job_core.specs.Reader.{StandsAt}
 use Rattle.job_core.proofs.Passing.{texts_of}
 use Rattle.place_core.specs.declared.place.By.{By}

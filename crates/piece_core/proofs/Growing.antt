@@ -1,9 +1,9 @@
 -- Texts that grow, place by place.
-use Rattle.std.proofs.Common.{◌≡◌, ℕ, zero, suc, ◌+◌, ◌≤◌, ◌<◌, List, [], ◌∷◌, ◌++◌, length, set, get_or, Bool, true, false, Some, None, Result, Ok, Err, Vec, Global, inl, inr, refl, sym, ap, ◌∙◌, arith}
+use Rattle.std.proofs.Common.{◌≡◌, ℕ, zero, suc, ◌<◌, List, [], ◌∷◌, ◌++◌, length, set, get_or, Bool, true, false, Some, Result, Ok, Err, Vec, Global, refl, sym, ap, ◌∙◌, arith}
 use Rattle.std.specs.Prelude.{OnOk, ◌==◌, if◌then◌else◌}
-use Rattle.std.proofs.lemmas.Bool.{cases_lt, eq-eqb, eqb-true}
+use Rattle.std.proofs.lemmas.Bool.{eq-eqb, eqb-true}
 use Rattle.std.proofs.lemmas.List.{append-nil, length-set}
-use Rattle.piece_core.specs.Texts.{text_at, part_at, IsLonger}
+use Rattle.piece_core.specs.Texts.{text_at, IsLonger}
 
 pub text_there : (vs : List (Vec ℕ Global)) (p : ℕ) (v : Vec ℕ Global) → p < length vs → v ≡ get_or vs p v → text_at vs p ≡ v.items
 text_there [] p v lt at = absurd (omega (arith, lt))

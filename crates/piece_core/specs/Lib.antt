@@ -2,3 +2,4 @@ pub mod Cuts
 pub mod Texts
 pub mod Records
 pub mod Pieces
+pub mod Drawn

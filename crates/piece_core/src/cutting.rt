@@ -7,6 +7,7 @@ ghost use Rattle.piece_core.specs.Texts.{IsLonger};
 ghost use Rattle.piece_core.specs.Records.{place_of_record};
 ghost use Rattle.piece_core.specs.Pieces.{AreOf};
 
+use crate::issuers::IssuerPlaces;
 use crate::record::place_of;
 use crate::texts::{no_texts, put};
 use gather_core::{entries_of, is_end};
@@ -31,6 +32,7 @@ fn put_record(
     texts: &mut [Vec<u8>],
     by: By,
     count: PlaceCount,
+    issuers: &mut IssuerPlaces,
     record: &Record,
     text: &[u8],
 ) -> Result<(), JobFault>
@@ -38,7 +40,7 @@ fn put_record(
     ensures put { OnOk result (IsLonger (place_of_record by count record.now) text.now texts.old texts.new) }
     ensures wanted { IfErr result (λ e. e ≡ JobFault.NoMemory) }
 {
-    match put(texts, place_of(by, count, record), text) {
+    match put(texts, place_of(by, count, record, issuers), text) {
         Ok(()) => Ok(()),
         Err(NoMemory) => Err(JobFault::NoMemory),
     }
@@ -60,12 +62,13 @@ pub fn cut_text(alloc: Global, bytes: &[u8], by: By, count: PlaceCount) -> Resul
         Ok(texts) => texts,
         Err(NoMemory) => return Err(JobFault::NoMemory),
     };
+    let mut issuers = IssuerPlaces::new(count);
     let mut entries = 0u64;
     loop {
         let start = feed.at() as usize;
         let given = reader.next(&mut feed)?;
         let text = &bytes[start..feed.at() as usize];
-        put_record(&mut texts, by, count, &given, text)?;
+        put_record(&mut texts, by, count, &mut issuers, &given, text)?;
         if is_end(&given) {
             return Ok(Pieces {
                 texts,

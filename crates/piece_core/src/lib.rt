@@ -2,6 +2,7 @@
 #![tactic(auto)]
 
 mod cutting;
+mod issuers;
 mod record;
 mod texts;
 
