@@ -70,9 +70,11 @@ def test_a_hint_is_given_exactly_where_the_words_are_no_command(words: list[str]
 def test_as_many_words_as_the_program_takes() -> None:
     for command, most in ((command, command.most) for command in COMMANDS if command.repeated):
         once = [WORDS[name][0] if name in FAULTS else "abcd"[place] for place, name in enumerate(command.once.split())]
-        again = [WORDS[name][0] if name in FAULTS else "e" for name in command.repeated.split()]
+        names = command.repeated.split()
         for rounds in (0, 1, most, most + 1):
-            words = [command.name, *once, *again * rounds]
+            # What is written has names of its own.
+            again = [WORDS[name][0] if name in FAULTS else f"e{at}" for at in range(rounds) for name in names]
+            words = [command.name, *once, *again]
             assert bool(hints(words)) == (status(words) == 2) == (rounds in (0, most + 1))
 
 
