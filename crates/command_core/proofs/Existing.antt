@@ -11,7 +11,7 @@ use Rattle.job_core.specs.declared.bounds.Limits.{Limits}
 use Rattle.job_core.specs.declared.bounds.TheConstants.Limits.{PUBLISHED}
 use Rattle.job_core.specs.JobFields.{CrlMeaning, JobFields}
 use Rattle.job_core.specs.Fitting.{FitsFields, FitsPublishing, IsWithinLimits}
-use Rattle.job_core.specs.JobLayout.{job_of}
+use Rattle.job_core.specs.JobMeaning.{job_of}
 use Rattle.place_core.specs.Cuts.{Cut}
 use Rattle.ledger_core.specs.LedgerFields.{LedgerFields}
 use Rattle.universe_core.specs.Formats.{in_format}

@@ -21,7 +21,8 @@ use Rattle.ledger_core.specs.declared.fault.LedgerFault.TheVariants as of_ledger
 use Rattle.job_core.specs.declared.bounds.TheConstants.Limits.{PUBLISHED}
 use Rattle.job_core.specs.declared.bounds.What.TheVariants as what
 use Rattle.job_core.specs.JobFields.{JobFields}
-use Rattle.job_core.specs.JobLayout.{EntryText, job_of}
+use Rattle.job_core.specs.JobLayout.{EntryText}
+use Rattle.job_core.specs.JobMeaning.{job_of}
 use Rattle.job_core.specs.JobText.{JobContents}
 use Rattle.gather_core.specs.Pages.{PageFields}
 use Rattle.gather_core.specs.Pages.{page_of}
@@ -29,7 +30,7 @@ use Rattle.gather_core.specs.declared.fault.PageFault.{PageFault}
 use Rattle.gather_core.specs.declared.fault.PageFault.TheVariants as of_page_faults
 use Rattle.gather_core.specs.declared.page.TheConstants.{MAX_PAGE}
 use Rattle.gather_core.specs.Raw.{raw_job, piece_limits, of_log}
-use Rattle.gather_core.proofs.NoReads.{no_read}
+use Rattle.gather_core.proofs.Reread.{no_read}
 use Rattle.job_core.specs.declared.fault.JobFault.{JobFault}
 use Rattle.job_core.specs.declared.fault.JobFault.TheVariants as of_job_faults
 use Rattle.job_core.proofs.JobBounds.{never-of}

@@ -2,24 +2,22 @@
 use Rattle.std.specs.Prelude.{All, nat_le, if◌then◌else◌}
 use Rattle.std.proofs.Common.{◌≡◌, ℕ, ◌≤◌, Bool, true, false, List, [], ◌∷◌, length, Result, Ok, Err, refl, sym, ap, ◌∙◌, subst, arith}
 use Rattle.std.proofs.lemmas.Bool.{le-leb, leb-true}
-use Rattle.std.proofs.lemmas.List.{take_all}
 use Rattle.std.proofs.lemmas.List.Elements.{All-nil, All-head, All-tail, All-append, All-filter}
-use Rattle.octets_core.specs.Reading.{value_of, end}
-use Rattle.octets_core.proofs.Texts.{IsBytes, ◌>>>◌, Leaves, ◌>>-◌, whole-leaves, mapped-leaves}
+use Rattle.octets_core.specs.Reading.{value_of}
+use Rattle.octets_core.proofs.Texts.{IsBytes}
 use Rattle.job_core.specs.declared.bounds.Limits.{Limits}
 use Rattle.job_core.specs.declared.bounds.TheConstants.Limits.{PUBLISHED}
 use Rattle.job_core.specs.declared.bounds.What.TheVariants as what
 use Rattle.job_core.specs.declared.fault.JobFault.{JobFault}
 use Rattle.job_core.specs.declared.fault.JobFault.TheVariants as faults
 use Rattle.job_core.specs.JobFields.{JobFields}
-use Rattle.job_core.specs.JobLayout.{CrlText, EntryText, opening, JobTexts, job, job_of, entry_meaning}
+use Rattle.job_core.specs.JobLayout.{CrlText, EntryText, JobTexts, job, entry_meaning}
 use Rattle.job_core.specs.JobText.{JobContents, FitsCrl, FitsEntry, FitsJob, spelling}
-use Rattle.job_core.specs.JobMeaning.{meaning_of, kept_in, reading_of}
+use Rattle.job_core.specs.JobMeaning.{meaning_of, kept_in, reading_of, job_of}
 use Rattle.job_core.specs.Reader.{no_serials}
 use Rattle.job_core.proofs.JobReads.{spelled-read}
-use Rattle.job_core.proofs.JobSpelled.{end-tells, opening-leaves, all-leave}
+use Rattle.job_core.proofs.JobSpelled.{job-leaves}
 use Rattle.gather_core.specs.Raw.{contents_in, raw_by, raw_job, piece_limits}
-use Rattle.gather_core.proofs.Reread.{spelled, fits-job}
 use Rattle.place_core.specs.Cuts.{Cut}
 use Rattle.piece_core.specs.Cuts.{keeps_entry, cut_contents}
 use Rattle.cut_core.specs.Cutting.{cut_job}
@@ -29,22 +27,7 @@ use Rattle.cut_core.proofs.Records.{entries_of, meaning_cut}
 
 -- ---- a raw job is its text
 
-abbrev IsText : Limits → List ℕ → JobContents → Type 0
-IsText limits bytes j = (bytes ≡ spelling j) × FitsJob limits j
-
 module _ (limits : Limits) (bytes : List ℕ) (octets : IsBytes bytes) where
-  raw_leaves : Leaves (job no_serials limits) bytes 0 (λ t q. IsText limits bytes (contents_in t))
-  unfolding job
-  raw_leaves =
-      mapped-leaves faults.Layout opening bytes 0 _ (opening-leaves bytes octets 0) >>- λ o r a.
-      all-leave no_serials limits bytes octets r >>- λ xs u b.
-      mapped-leaves faults.Layout end bytes u _ (end-tells bytes u) >>- λ over v d.
-      whole-leaves _ bytes v _
-      (let t : JobTexts = record { epoch = o.0; moment = o.1; items = xs } in (
-        sym (take_all u bytes d.1) ∙ (a.0 >>> b.0).parts ∙ spelled limits t b.1,
-        fits-job limits t a.1 a.2 b.1,
-      ))
-
   raw_ok : (r : Result (JobTexts × ℕ) JobFault) (j : JobContents) → raw_by (value_of r) ≡ Ok j → (x : JobTexts × ℕ) × (r ≡ Ok x) × (contents_in x.0 ≡ j)
   raw_ok (Ok x) j is = (x, refl, let h : ◌≡◌ {A = Result JobContents JobFault} (Ok (contents_in x.0)) (Ok j) = is in cc)
   raw_ok (Err e) j is = absurd (let h : ◌≡◌ {A = Result JobContents JobFault} (Err e) (Ok j) = is in cc)
@@ -52,7 +35,8 @@ module _ (limits : Limits) (bytes : List ℕ) (octets : IsBytes bytes) where
   pub raw_text : (j : JobContents) → raw_job limits bytes ≡ Ok j → (bytes ≡ spelling j) × FitsJob limits j
   raw_text j is =
       let r = raw_ok (job no_serials limits bytes 0) j is in
-      subst (IsText limits bytes) r.2 (raw_leaves.each r.0 r.1)
+      let (text, fits, pass) = (job-leaves no_serials limits bytes octets).each r.0 r.1 in
+      subst (λ (k : JobContents). (bytes ≡ spelling k) × FitsJob limits k) r.2 (text, fits)
 
 -- ---- cut
 

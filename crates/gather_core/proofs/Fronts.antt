@@ -13,7 +13,8 @@ use Rattle.gather_core.specs.declared.counting.Tally.{Tally}
 use Rattle.gather_core.specs.Raw.{contents_in, ranges_in, entries_in}
 use Rattle.gather_core.specs.Opened.{Counts}
 use Rattle.gather_core.proofs.Records.{Fits, AllFit, pass-fits, same_texts, texts-more, texts-few, fits-more, ranges-more, entries-more}
-use Rattle.gather_core.proofs.Reread.{read-job, spelled, fits-job}
+use Rattle.job_core.proofs.Sorting.{spelled, fits-job}
+use Rattle.gather_core.proofs.Reread.{read-job}
 
 -- the opening and records that fit, of which the epoch, the ranges and the entries are counted so
 pub record Front (b : List ℕ) (n : Tally) : Type 0 where
@@ -74,8 +75,8 @@ front-whole l numbers file b n fits f is (h, c, t, ends, begins) =
     = ends ∙ ap (λ (k : List ℕ). k ++ to_be_bytes w8 0) begins.spelled ∙ append_assoc (opening_text t.epoch t.moment) (texts_of t.items) (to_be_bytes w8 0) in (
       contents_in t,
       read-job l t begins.epoch begins.moment begins.pass file text,
-      text ∙ spelled l t begins.pass,
-      fits-job l t begins.epoch begins.moment begins.pass,
+      text ∙ spelled _ l t begins.pass,
+      fits-job _ l t begins.epoch begins.moment begins.pass,
       same_epoch n.epoch f.moment t.epoch t.moment _ _ fits begins.epoch (sym both),
       f.ranges ∙ ap (λ (xs : List Item). length (ranges_in xs)) (sym items),
       f.entries ∙ ap (λ (xs : List Item). length (entries_in xs)) (sym items),

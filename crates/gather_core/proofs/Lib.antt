@@ -1,10 +1,8 @@
 pub mod Pages
 pub mod Bound
 pub mod Records
-pub mod Sorting
 pub mod Reread
 pub mod Fronts
 pub mod Joining
 pub mod Taken
 pub mod Reading
-pub mod NoReads

@@ -1,43 +1,14 @@
 -- The raw job of bytes: what its records hold, as they stand.
-use Rattle.std.specs.Prelude.{ℕ, List, [], ◌∷◌, ◌++◌, flat_map, Result, Ok, Err}
+use Rattle.std.specs.Prelude.{ℕ, List, ◌++◌, flat_map, Result, Ok, Err}
 use Rattle.octets_core.specs.Reading.{value_of}
-use Rattle.ident_core.specs.declared.range.Range.{Range}
 use Rattle.job_core.specs.declared.bounds.Limits.{Limits}
 use Rattle.job_core.specs.declared.bounds.TheConstants.Limits as limits
 use Rattle.job_core.specs.declared.fault.JobFault.{JobFault}
-use Rattle.job_core.specs.JobLayout.{CrlText, EntryText, Item, OneRange, OneCrl, OneEntry, JobTexts, job}
+use Rattle.job_core.specs.JobLayout.{EntryText, JobTexts, job}
 use Rattle.job_core.specs.JobText.{JobContents, opening_text, range_record, crl_record, entry_record}
+pub use Rattle.job_core.specs.JobText.{ranges_in, crls_in, entries_in, contents_in}
 use Rattle.job_core.specs.Reader.{no_serials}
 use Rattle.gather_core.specs.Pages.{PageFields}
-
--- the records of each kind, in their order
-
-abbrev pub ranges_in : List Item → List Range
-ranges_in [] = []
-ranges_in (OneRange r ∷ xs) = r ∷ ranges_in xs
-ranges_in (OneCrl c ∷ xs) = ranges_in xs
-ranges_in (OneEntry e ∷ xs) = ranges_in xs
-
-abbrev pub crls_in : List Item → List CrlText
-crls_in [] = []
-crls_in (OneRange r ∷ xs) = crls_in xs
-crls_in (OneCrl c ∷ xs) = c ∷ crls_in xs
-crls_in (OneEntry e ∷ xs) = crls_in xs
-
-abbrev pub entries_in : List Item → List EntryText
-entries_in [] = []
-entries_in (OneRange r ∷ xs) = entries_in xs
-entries_in (OneCrl c ∷ xs) = entries_in xs
-entries_in (OneEntry e ∷ xs) = e ∷ entries_in xs
-
-abbrev pub contents_in : JobTexts → JobContents
-contents_in t = record {
-  epoch = t.epoch;
-  moment = t.moment;
-  ranges = ranges_in t.items;
-  crls = crls_in t.items;
-  entries = entries_in t.items;
-}
 
 abbrev pub raw_by : Result JobTexts JobFault → Result JobContents JobFault
 raw_by (Ok t) = Ok (contents_in t)

@@ -5,7 +5,7 @@ use Rattle.outside_core.specs.declared.feed.Feed.{Feed}
 use Rattle.outside_core.specs.Files.{Files}
 use Rattle.outside_core.specs.Standing.{depot_of, name_of}
 use Rattle.job_core.specs.JobFields.{fields_of_job}
-use Rattle.job_core.specs.JobLayout.{job_of}
+use Rattle.job_core.specs.JobMeaning.{job_of}
 use Rattle.job_core.specs.Pulling.{Blames, Comes, IsGiven}
 use Rattle.job_core.specs.declared.bounds.TheConstants.Limits as limits
 use Rattle.job_core.specs.declared.fault.JobFault.{JobFault}

@@ -5,7 +5,7 @@ use Rattle.input_core.specs.Queries.{Query}
 use Rattle.input_core.specs.QueryReading.{queries_in as queries_of}
 use Rattle.job_core.specs.declared.bounds.TheConstants.Limits as limits
 use Rattle.job_core.specs.JobFields.{JobFields}
-use Rattle.job_core.specs.JobLayout.{job_of}
+use Rattle.job_core.specs.JobMeaning.{job_of}
 use Rattle.ledger_core.specs.LedgerFields.{LedgerFields}
 use Rattle.ledger_core.specs.LedgerReading.{ledger_of_bytes}
 use Rattle.part_text.specs.SealedFields.{SealedFields}

@@ -1,38 +1,20 @@
 -- What holds of a job that was read, from what its text holds.
-use Rattle.std.proofs.Common.{◌≡◌, ℕ, ◌≤◌, Bool, true, false, List, length, Result, Ok, Err, refl, subst, arith, IfOk}
-use Rattle.std.specs.Prelude.{All, nat_le, if◌then◌else◌, IfSome}
-use Rattle.std.proofs.lemmas.Bool.{leb-true}
+use Rattle.std.proofs.Common.{◌≡◌, ℕ, ◌≤◌, List, length, Result, Ok, Err, sym, subst, arith, IfOk}
+use Rattle.std.specs.Prelude.{All, IfSome}
 use Rattle.std.proofs.lemmas.List.{length-map}
 use Rattle.std.proofs.lemmas.List.Elements.{All-map}
 use Rattle.octets_core.specs.Reading.{GivesUnless}
-use Rattle.octets_core.proofs.Fields.{ok_is}
 use Rattle.octets_core.proofs.Texts.{IsBytes}
 use Rattle.ident_core.proofs.RangeTexts.{ranges-ascend}
 use Rattle.job_core.specs.declared.bounds.Limits.{Limits}
 use Rattle.job_core.specs.declared.fault.JobFault.{JobFault}
 use Rattle.job_core.specs.declared.fault.JobFault.TheVariants as faults
 use Rattle.job_core.specs.JobFields.{CrlMeaning, JobFields}
-use Rattle.job_core.specs.JobLayout.{job_of}
 use Rattle.job_core.specs.JobText.{JobContents, FitsJob}
-use Rattle.job_core.specs.JobMeaning.{crl_meaning, entry_meaning, meaning_of, kept_in}
+use Rattle.job_core.specs.JobMeaning.{crl_meaning, entry_meaning, meaning_of, kept_in, job_of}
 use Rattle.crl_core.specs.Outcome.{CrlFieldsFit}
 use Rattle.job_core.specs.Fitting.{EntryFieldsFit, FitsPublishing, FitsFields, IsWithinLimits}
 use Rattle.job_core.proofs.JobSpelled.{read-spelled}
-
-read-by : (b : Bool) (e : JobFault) (m f : JobFields) → (if b then Ok m else Err e) ≡ Ok f → (b ≡ true) × (m ≡ f)
-read-by true e m f h = (refl, ok_is {E = JobFault} m f h)
-read-by false e m f h = absurd cc
-
--- what is said comes from contents that fit
-Said : Limits → JobFields → Type 0
-Said limits f = (j : JobContents) × FitsJob limits j × (kept_in (meaning_of j).crls ≤ limits.serials) × (meaning_of j ≡ f)
-
-said : (limits : Limits) (bytes : List ℕ) (f : JobFields) → IsBytes bytes → job_of limits bytes ≡ Ok f → Said limits f
-unfolding Said
-said limits bytes f fits h =
-    let (j, text, fitting, is) = read-spelled limits bytes f fits h in
-    let r = read-by (nat_le (kept_in (meaning_of j).crls) limits.serials) _ (meaning_of j) f is in
-    (j, fitting, leb-true (kept_in (meaning_of j).crls) limits.serials r.0, r.1)
 
 within-meaning : (limits : Limits) (j : JobContents) → FitsJob limits j → kept_in (meaning_of j).crls ≤ limits.serials → IsWithinLimits limits (meaning_of j)
 within-meaning limits j fits few = record {
@@ -54,18 +36,16 @@ fits-meaning limits j fits published entries = record {
 }
 
 pub within-read : (limits : Limits) (bytes : List ℕ) (f : JobFields) → IsBytes bytes → job_of limits bytes ≡ Ok f → IsWithinLimits limits f
-unfolding Said
 within-read limits bytes f fits h =
-    let (j, fitting, few, is) = said limits bytes f fits h in
-    subst (λ (g : JobFields). IsWithinLimits limits g) is (within-meaning limits j fitting few)
+    let is = read-spelled limits bytes f fits h in
+    subst (λ (g : JobFields). kept_in g.crls ≤ limits.serials → IsWithinLimits limits g) (sym is.means) (within-meaning limits is.contents is.fits) is.few_serials
 
 pub fits-read : (limits : Limits) (bytes : List ℕ) (f : JobFields) → IsBytes bytes → limits.ranges ≤ 1024
     → All (λ c. IfOk c.outcome CrlFieldsFit) f.crls → All (λ e. IfSome e EntryFieldsFit) f.entries → job_of limits bytes ≡ Ok f → FitsFields f
-unfolding Said
 fits-read limits bytes f fits published crls entries h =
-    let (j, fitting, few, is) = said limits bytes f fits h in
+    let is = read-spelled limits bytes f fits h in
     record {
-      publishing = subst (λ (g : JobFields). All (λ e. IfSome e EntryFieldsFit) g.entries → FitsPublishing g) is (λ all. fits-meaning limits j fitting published all) entries;
+      publishing = subst (λ (g : JobFields). All (λ e. IfSome e EntryFieldsFit) g.entries → FitsPublishing g) (sym is.means) (λ all. fits-meaning limits is.contents is.fits published all) entries;
       accepted = crls;
     }
 

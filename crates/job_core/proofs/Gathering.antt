@@ -10,8 +10,8 @@ use Rattle.job_core.specs.declared.fault.JobFault.TheVariants as faults
 use Rattle.job_core.specs.declared.partial.Numbers.{Numbers}
 use Rattle.job_core.specs.declared.records.Item.{Item as Taken}
 use Rattle.job_core.specs.JobFields.{JobFields}
-use Rattle.job_core.specs.JobLayout.{Item, OneRange, OneCrl, OneEntry, HeldSoFar, nothing_held, with_item, serials_of, with_serials, next_item, records, saying_one}
-use Rattle.job_core.specs.Partial.{held_in, said_behind, records_saying}
+use Rattle.job_core.specs.JobLayout.{Item, OneRange, OneCrl, OneEntry, HeldSoFar, nothing_held, with_item, serials_of, with_serials, next_item, records}
+use Rattle.job_core.specs.Partial.{held_in, saying_one, said_behind, records_saying}
 use Rattle.outside_core.specs.Pulling.{Pulled}
 use Rattle.job_core.specs.Pulling.{AreBytes, NoneFailed, Lies, Fetches}
 use Rattle.outside_core.proofs.Pulling.{pulled-then}

@@ -1,18 +1,16 @@
--- The records of what a job holds: their texts, and what they say.
-use Rattle.std.proofs.Common.{◌≡◌, ℕ, ◌+◌, List, [], ◌∷◌, ◌++◌, refl, sym, ap, ◌∙◌, append_assoc, arith}
+-- The records of what a job holds: their texts, and how many serials they bring.
+use Rattle.std.proofs.Common.{◌≡◌, ℕ, ◌+◌, ◌≤◌, List, [], ◌∷◌, ◌++◌, refl, ap, ◌∙◌, arith}
 use Rattle.std.specs.Prelude.{map, flat_map}
-use Rattle.std.proofs.lemmas.List.{append-nil}
 use Rattle.std.proofs.lemmas.List.Folds.{flat_map-map}
-use Rattle.std.proofs.lemmas.List.Sums.{sum_by-append, sum_by-cons}
+use Rattle.std.proofs.lemmas.List.Sums.{sum_by-cons}
 use Rattle.std.proofs.lemmas.Grind.{flat_map-append}
 use Rattle.ident_core.specs.declared.range.Range.{Range}
 use Rattle.crl_core.specs.Outcome.{outcome}
-use Rattle.log_core.specs.declared.Entry.{Entry}
-use Rattle.std.specs.Prelude.{Option}
-use Rattle.job_core.specs.JobFields.{CrlMeaning, JobFields}
-use Rattle.job_core.specs.JobLayout.{CrlText, EntryText, Item, OneRange, OneCrl, OneEntry, kept, serials_of, crl_meaning, entry_meaning, saying_one, saying, begun}
-use Rattle.job_core.specs.JobText.{JobContents, range_record, crl_record, entry_record, record_text, serials_behind}
-use Rattle.job_core.specs.JobMeaning.{meaning_of, kept_in}
+use Rattle.job_core.specs.declared.bounds.Limits.{Limits}
+use Rattle.job_core.specs.JobFields.{CrlMeaning}
+use Rattle.job_core.specs.JobLayout.{CrlText, EntryText, HeldSoFar, Item, OneRange, OneCrl, OneEntry, with_item, kept, serials_of, crl_meaning}
+use Rattle.job_core.specs.JobText.{JobContents, range_record, crl_record, entry_record, record_text, ranges_in, crls_in, entries_in, contents_in, Pass, serials_behind}
+use Rattle.job_core.specs.JobMeaning.{kept_in}
 
 abbrev pub items : List Range → List CrlText → List EntryText → List Item
 items rs cs es = map (λ r. OneRange r) rs ++ (map (λ c. OneCrl c) cs ++ map (λ e. OneEntry e) es)
@@ -33,31 +31,21 @@ texts-are rs cs es =
     ∙ ap (λ (l : List ℕ). flat_map record_text R ++ l) (flat_map-append record_text C E)
     ∙ rw (r, c, e) refl
 
--- ---- what they say
+-- each kind by itself
+entries-apart : (es : List EntryText) → let xs : List Item = items [] [] es in (ranges_in xs ≡ []) × (crls_in xs ≡ []) × (entries_in xs ≡ es)
+entries-apart [] = (refl, refl, refl)
+entries-apart (e ∷ es) = let t = entries-apart es in (t.0, t.1, ap (λ (l : List EntryText). e ∷ l) t.2)
 
-saying-ranges : (f : JobFields) (rs : List Range) (xs : List Item) → saying f (map (λ r. OneRange r) rs ++ xs) ≡ saying (record f { ranges = f.ranges ++ rs }) xs
-saying-ranges f [] xs = ap (λ (l : List Range). saying (record f { ranges = l }) xs) (sym (append-nil f.ranges))
-saying-ranges f (r ∷ rs) xs =
-    saying-ranges (saying_one f (OneRange r)) rs xs
-    ∙ ap (λ (l : List Range). saying (record f { ranges = l }) xs) (append_assoc f.ranges (r ∷ []) rs)
+crls-apart : (cs : List CrlText) (es : List EntryText) → let xs : List Item = items [] cs es in (ranges_in xs ≡ []) × (crls_in xs ≡ cs) × (entries_in xs ≡ es)
+crls-apart [] es = entries-apart es
+crls-apart (c ∷ cs) es = let t = crls-apart cs es in (t.0, ap (λ (l : List CrlText). c ∷ l) t.1, t.2)
 
-saying-crls : (f : JobFields) (cs : List CrlText) (xs : List Item) → saying f (map (λ c. OneCrl c) cs ++ xs) ≡ saying (record f { crls = f.crls ++ map crl_meaning cs }) xs
-saying-crls f [] xs = ap (λ (l : List CrlMeaning). saying (record f { crls = l }) xs) (sym (append-nil f.crls))
-saying-crls f (c ∷ cs) xs =
-    saying-crls (saying_one f (OneCrl c)) cs xs
-    ∙ ap (λ (l : List CrlMeaning). saying (record f { crls = l }) xs) (append_assoc f.crls (crl_meaning c ∷ []) (map crl_meaning cs))
+all-apart : (rs : List Range) (cs : List CrlText) (es : List EntryText) → let xs : List Item = items rs cs es in (ranges_in xs ≡ rs) × (crls_in xs ≡ cs) × (entries_in xs ≡ es)
+all-apart [] cs es = crls-apart cs es
+all-apart (r ∷ rs) cs es = let t = all-apart rs cs es in (ap (λ (l : List Range). r ∷ l) t.0, t.1, t.2)
 
-saying-entries : (f : JobFields) (es : List EntryText) → saying f (map (λ e. OneEntry e) es) ≡ record f { entries = f.entries ++ map entry_meaning es }
-saying-entries f [] = ap (λ (l : List (Option Entry)). record f { entries = l }) (sym (append-nil f.entries))
-saying-entries f (e ∷ es) =
-    saying-entries (saying_one f (OneEntry e)) es
-    ∙ ap (λ (l : List (Option Entry)). record f { entries = l }) (append_assoc f.entries (entry_meaning e ∷ []) (map entry_meaning es))
-
-pub saying-meaning : (j : JobContents) → saying (begun j.epoch j.moment) (items_of j) ≡ meaning_of j
-saying-meaning j =
-    saying-ranges (begun j.epoch j.moment) j.ranges (map (λ c. OneCrl c) j.crls ++ map (λ e. OneEntry e) j.entries)
-    ∙ saying-crls (record (begun j.epoch j.moment) { ranges = j.ranges }) j.crls (map (λ e. OneEntry e) j.entries)
-    ∙ saying-entries (record (begun j.epoch j.moment) { ranges = j.ranges; crls = map crl_meaning j.crls }) j.entries
+pub contents-are : (j : JobContents) → contents_in (record { epoch = j.epoch; moment = j.moment; items = items_of j }) ≡ j
+contents-are j = let t = all-apart j.ranges j.crls j.entries in rw (t.0, t.1, t.2) refl
 
 -- ---- how many serials they bring
 
@@ -67,11 +55,16 @@ brought cs = kept_in (map crl_meaning cs)
 pub brought-more : (c : CrlText) (cs : List CrlText) → brought (c ∷ cs) ≡ kept (outcome c.bytes) + brought cs
 brought-more c cs = sum_by-cons (λ (m : CrlMeaning). kept m.outcome) (crl_meaning c) (map crl_meaning cs)
 
-pub serials-kept : (f : JobFields) (xs : List Item) → serials_behind serials_of (kept_in f.crls) xs ≡ kept_in (saying f xs).crls
-serials-kept f [] = refl
-serials-kept f (OneRange r ∷ xs) = serials-kept (saying_one f (OneRange r)) xs
-serials-kept f (OneCrl c ∷ xs) =
-    let more : kept_in f.crls + serials_of c.bytes ≡ kept_in (saying_one f (OneCrl c)).crls
-    = omega (arith, sum_by-append (λ (m : CrlMeaning). kept m.outcome) f.crls (crl_meaning c ∷ []), sum_by-cons (λ (m : CrlMeaning). kept m.outcome) (crl_meaning c) []) in
-    ap (λ (n : ℕ). serials_behind serials_of n xs) more ∙ serials-kept (saying_one f (OneCrl c)) xs
-serials-kept f (OneEntry e ∷ xs) = serials-kept (saying_one f (OneEntry e)) xs
+pub serials-kept : (n : ℕ) (xs : List Item) → serials_behind serials_of n xs ≡ n + brought (crls_in xs)
+serials-kept n [] = omega arith
+serials-kept n (OneRange r ∷ xs) = serials-kept n xs
+serials-kept n (OneCrl c ∷ xs) = omega (arith, serials-kept (n + serials_of c.bytes) xs, brought-more c (crls_in xs))
+serials-kept n (OneEntry e ∷ xs) = serials-kept n xs
+
+-- of records that pass, no more than the limit
+pub few-brought : (limits : Limits) (h : HeldSoFar) (n : ℕ) (xs : List Item) → n ≤ limits.serials → Pass serials_of limits h n xs → n + brought (crls_in xs) ≤ limits.serials
+few-brought limits h n [] le pass = omega (arith, le)
+few-brought limits h n (OneRange r ∷ xs) le pass = few-brought limits (with_item h (OneRange r)) n xs le pass.2
+few-brought limits h n (OneCrl c ∷ xs) le pass =
+    omega (arith, few-brought limits (with_item h (OneCrl c)) (n + serials_of c.bytes) xs pass.1 pass.2, brought-more c (crls_in xs))
+few-brought limits h n (OneEntry e ∷ xs) le pass = few-brought limits (with_item h (OneEntry e)) n xs le pass.2

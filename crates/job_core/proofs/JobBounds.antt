@@ -18,7 +18,8 @@ use Rattle.job_core.specs.declared.fault.JobFault.{JobFault}
 use Rattle.job_core.specs.declared.fault.JobFault.TheVariants as faults
 use Rattle.job_core.specs.JobFields.{JobFields}
 use Rattle.job_core.specs.JobLayout.{fielded, record_kind, crl, entry, HeldSoFar, nothing_held, Item, at_most, range_item, crl_item, entry_item, item_of}
-use Rattle.job_core.specs.JobLayout.{next_item, with_item, serials_of, with_serials, with_others, records_within, records, opening, JobTexts, job, said_by, job_of}
+use Rattle.job_core.specs.JobLayout.{next_item, with_item, serials_of, with_serials, with_others, records_within, records, opening, JobTexts, job}
+use Rattle.job_core.specs.JobMeaning.{meant, job_of}
 use Rattle.job_core.specs.Offsets.{offset_in_job}
 
 abbrev offset : LayoutFault → ℕ
@@ -154,7 +155,14 @@ job-bounded brings n limits =
     fielded-bounded n end end-bounded >>> λ over.
     whole-bounded (place n) _
 
-fault-within : (n : ℕ) (bytes : List ℕ) (e : JobFault) (read : Result (JobTexts × ℕ) JobFault) → IsWithin (place n) bytes read → said_by (value_of read) ≡ Err e → place n e ≤ length bytes
+-- no fault is that of a read, whatever CRLs bring
+pub never-reads : (brings : List ℕ → ℕ) (limits : Limits) (bytes : List ℕ) → job brings limits bytes 0 ≡ Err faults.ReadFault → ⊥
+never-reads brings limits bytes h =
+    let n : ℕ = length bytes + 1 in
+    let far : n ≤ length bytes = subst (IsWithin (place n) bytes) h ((job-bounded brings n limits).each bytes 0 (omega arith)) in
+    omega (arith, far)
+
+fault-within : (n : ℕ) (bytes : List ℕ) (e : JobFault) (read : Result (JobTexts × ℕ) JobFault) → IsWithin (place n) bytes read → meant (value_of read) ≡ Err e → place n e ≤ length bytes
 fault-within n bytes e (Ok x) h is = absurd cc
 fault-within n bytes e (Err d) h is =
     let same : d ≡ e = cc in

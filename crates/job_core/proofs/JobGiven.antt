@@ -20,8 +20,9 @@ use Rattle.job_core.specs.declared.fault.JobFault.{JobFault}
 use Rattle.job_core.specs.declared.fault.JobFault.TheVariants as faults
 use Rattle.job_core.specs.Fitting.{FitsFields, IsWithinLimits}
 use Rattle.job_core.specs.JobFields.{JobFields}
-use Rattle.job_core.specs.JobLayout.{fielded, opening, begun, job_of}
-use Rattle.job_core.specs.Partial.{records_saying}
+use Rattle.job_core.specs.JobLayout.{fielded, opening}
+use Rattle.job_core.specs.JobMeaning.{job_of}
+use Rattle.job_core.specs.Partial.{begun, records_saying}
 use Rattle.outside_core.specs.Pulling.{Pulled}
 use Rattle.job_core.specs.Pulling.{IsOfBytes, Blames, Comes, Lies, Fetches, SeesMore, ReadsJob}
 use Rattle.job_core.proofs.Given.{lies-first, lies-both, lies-last, lies-self, lies-whole}

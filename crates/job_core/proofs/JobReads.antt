@@ -17,16 +17,15 @@ use Rattle.job_core.specs.declared.bounds.Limits.{Limits}
 use Rattle.job_core.specs.declared.bounds.What.TheVariants as what
 use Rattle.job_core.specs.declared.fault.JobFault.{JobFault}
 use Rattle.job_core.specs.declared.fault.JobFault.TheVariants as faults
-use Rattle.job_core.specs.JobFields.{JobFields}
 use Rattle.job_core.specs.JobLayout.{fielded, CrlText, EntryText, HeldSoFar, nothing_held, Item, OneRange, OneCrl, OneEntry, with_item, serials_of, with_serials, next_item, records}
-use Rattle.job_core.specs.JobLayout.{opening, JobTexts, job, said_by, job_of}
+use Rattle.job_core.specs.JobLayout.{opening, JobTexts, job}
 use Rattle.job_core.specs.JobText.{JobContents, range_record, crl_record, entry_record, record_text, opening_text, spelling}
 use Rattle.job_core.specs.JobText.{FitsCrl, FitsEntry, FitsJob, FitsItem, Pass, held_behind, serials_behind, behind}
-use Rattle.job_core.specs.JobMeaning.{meaning_of, kept_in, reading_of}
+use Rattle.job_core.specs.JobMeaning.{meaning_of, kept_in, reading_of, meant, job_of}
 use Rattle.job_core.proofs.RecordTexts.{next-read, next-none}
 use Rattle.job_core.proofs.Steps.{goes_on, ends, runs_over}
 use Rattle.job_core.proofs.Passing.{texts_of, split, passes}
-use Rattle.job_core.proofs.Items.{items_of, texts-are, saying-meaning, brought, brought-more}
+use Rattle.job_core.proofs.Items.{items_of, texts-are, contents-are, brought, brought-more}
 
 first_of : {X : Type 0} (P : X → Type 0) (x : X) (xs : List X) → All P (x ∷ xs) → P x
 first_of P x xs all = all 0 x (omega arith)
@@ -193,33 +192,37 @@ spelling-is j =
     regrouped (opening_text j.epoch j.moment) (flat_map range_record j.ranges) (flat_map crl_record j.crls) (flat_map entry_record j.entries) (to_be_bytes w8 0)
     ∙ ap (λ (l : List ℕ). opening_text j.epoch j.moment ++ (l ++ to_be_bytes w8 0)) (sym (texts-are j.ranges j.crls j.entries))
 
-opened : (limits : Limits) (j : JobContents) → FitsJob limits j → (T : List ℕ)
-    → job serials_of limits (opening_text j.epoch j.moment ++ T) 0
-    ≡ behind_opening serials_of limits (j.epoch, j.moment) (opening_text j.epoch j.moment ++ T) (length (opening_text j.epoch j.moment))
-opened limits j fits T =
-    behind-opening serials_of limits (opening_text j.epoch j.moment ++ T) 0 (j.epoch, j.moment) (length (opening_text j.epoch j.moment))
-    ((opening-read j.epoch j.moment fits.epoch fits.moment []).each T)
+opened : (brings : List ℕ → ℕ) (limits : Limits) (epoch moment : ℕ) → epoch < 2 ^ 64 → moment < 2 ^ 64 → (T : List ℕ)
+    → job brings limits (opening_text epoch moment ++ T) 0 ≡ behind_opening brings limits (epoch, moment) (opening_text epoch moment ++ T) (length (opening_text epoch moment))
+opened brings limits epoch moment few_epoch few_moment T =
+    behind-opening brings limits (opening_text epoch moment ++ T) 0 (epoch, moment) (length (opening_text epoch moment)) ((opening-read epoch moment few_epoch few_moment []).each T)
 
-whole-read : (limits : Limits) (j : JobContents) → FitsJob limits j → kept_in (meaning_of j).crls ≤ limits.serials → job_of limits (spelling j) ≡ Ok (meaning_of j)
+-- the opening, records that pass, and the end are read as these
+pub texts-read : (brings : List ℕ → ℕ) (limits : Limits) (t : JobTexts) → t.epoch < 2 ^ 64 → t.moment < 2 ^ 64 → Pass brings limits nothing_held 0 t.items
+    → let B : List ℕ = opening_text t.epoch t.moment ++ (texts_of t.items ++ to_be_bytes w8 0) in job brings limits B 0 ≡ Ok (t, length B)
+texts-read brings limits t epoch moment pass =
+    let O : List ℕ = opening_text t.epoch t.moment in
+    let T : List ℕ = texts_of t.items ++ to_be_bytes w8 0 in
+    opened brings limits t.epoch t.moment epoch moment T
+    ∙ ap (λ r. then_read r (λ xs. fielded end >>= λ over. whole (record { epoch = t.epoch; moment = t.moment; items = xs })) (O ++ T)) (records-end brings limits t.items O pass)
+    ∙ rw (ends-at (O ++ T)) refl
+
+pub whole-read : (limits : Limits) (j : JobContents) → FitsJob limits j → kept_in (meaning_of j).crls ≤ limits.serials → job_of limits (spelling j) ≡ Ok (meaning_of j)
 whole-read limits j fits under =
-    let O : List ℕ = opening_text j.epoch j.moment in
-    let T : List ℕ = texts_of (items_of j) ++ to_be_bytes w8 0 in
-    let all = records-end serials_of limits (items_of j) O (job-passes limits j fits under) in
-    let read : job serials_of limits (O ++ T) 0 ≡ Ok (record { epoch = j.epoch; moment = j.moment; items = items_of j }, length (O ++ T)) =
-    opened limits j fits T
-    ∙ ap (λ r. then_read r (λ xs. fielded end >>= λ over. whole (record { epoch = j.epoch; moment = j.moment; items = xs })) (O ++ T)) all
-    ∙ rw (ends-at (O ++ T)) refl in
-    rw (spelling-is j) (ap (λ r. said_by (value_of r)) read ∙ ap (λ (f : JobFields). Ok f) (saying-meaning j))
+    let t : JobTexts = record { epoch = j.epoch; moment = j.moment; items = items_of j } in
+    ap (job_of limits) (spelling-is j)
+    ∙ ap (λ r. meant (value_of r)) (texts-read serials_of limits t fits.epoch fits.moment (job-passes limits j fits under))
+    ∙ ap (λ (k : JobContents). Ok (meaning_of k)) (contents-are j)
 
 over-read : (limits : Limits) (j : JobContents) → FitsJob limits j → limits.serials < kept_in (meaning_of j).crls → job_of limits (spelling j) ≡ Err (too_many limits)
 over-read limits j fits over =
     let O : List ℕ = opening_text j.epoch j.moment in
     let T : List ℕ = texts_of (items_of j) ++ to_be_bytes w8 0 in
     let read : job serials_of limits (O ++ T) 0 ≡ Err (too_many limits) =
-    opened limits j fits T
+    opened serials_of limits j.epoch j.moment fits.epoch fits.moment T
     ∙ ap (λ r. then_read r (λ xs. fielded end >>= λ over. whole (record { epoch = j.epoch; moment = j.moment; items = xs })) (O ++ T))
     (records-over limits nothing_held 0 (items_of j) O (to_be_bytes w8 0) (job-over limits j fits over)) in
-    rw (spelling-is j) (ap (λ r. said_by (value_of r)) read)
+    rw (spelling-is j) (ap (λ r. meant (value_of r)) read)
 
 -- what is spelled so is read as its meaning; or its serials are too many
 pub spelled-read : (limits : Limits) (j : JobContents) → FitsJob limits j → job_of limits (spelling j) ≡ reading_of limits j

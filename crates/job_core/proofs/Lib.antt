@@ -3,6 +3,7 @@ pub mod RecordTexts
 pub mod Passing
 pub mod Items
 pub mod JobReads
+pub mod Sorting
 pub mod WrittenJob
 pub mod RecordsSpelled
 pub mod JobSpelled

@@ -1,13 +1,12 @@
 -- A job that bytes are read as fits its fields and keeps its limits, whatever reads them.
-use Rattle.std.proofs.Common.{◌≡◌, ℕ, ◌^◌, ◌<◌, ◌≤◌, zero, suc, Bool, true, false, List, [], ◌∷◌, ◌++◌, map, flat_map, length, Option, Some, None, Result, Ok, Err, refl, ap, ◌∙◌, subst, arith, IfOk}
-use Rattle.std.specs.Prelude.{All, IfSome, nat_le, if◌then◌else◌}
+use Rattle.std.proofs.Common.{◌≡◌, ℕ, ◌^◌, ◌<◌, ◌≤◌, zero, suc, List, [], ◌∷◌, ◌++◌, map, flat_map, length, Option, Some, None, Result, Ok, Err, refl, sym, ap, ◌∙◌, subst, arith, IfOk}
+use Rattle.std.specs.Prelude.{All, IfSome}
 use Rattle.std.specs.Int.{to_be_bytes, w8, w64}
 use Rattle.std.specs.Prelude.{codes}
 use Rattle.std.proofs.lemmas.List.Elements.{All-nil, All-cons, All-head, All-tail}
 use Rattle.sha2.proofs.Facts256.{length-sha256}
 use Rattle.octets_core.specs.Numbers.{number, three_bytes}
 use Rattle.octets_core.specs.Reading.{GivesUnless}
-use Rattle.octets_core.proofs.Fields.{ok_is}
 use Rattle.octets_core.proofs.Texts.{IsBytes}
 use Rattle.crl_core.specs.declared.crl.CrlFault.{CrlFault}
 use Rattle.crl_core.specs.Form.{CrlForm, crl_form}
@@ -22,9 +21,9 @@ use Rattle.job_core.specs.declared.bounds.Limits.{Limits}
 use Rattle.job_core.specs.declared.fault.JobFault.{JobFault}
 use Rattle.job_core.specs.declared.fault.JobFault.TheVariants as faults
 use Rattle.job_core.specs.JobFields.{JobFields}
-use Rattle.job_core.specs.JobLayout.{CrlText, EntryText, job_of}
+use Rattle.job_core.specs.JobLayout.{CrlText, EntryText}
 use Rattle.job_core.specs.JobText.{JobContents, FitsEntry, range_record, crl_record, entry_record, spelling}
-use Rattle.job_core.specs.JobMeaning.{crl_meaning, entry_meaning, meaning_of, kept_in}
+use Rattle.job_core.specs.JobMeaning.{crl_meaning, entry_meaning, job_of}
 use Rattle.job_core.specs.Fitting.{EntryFieldsFit, FitsFields}
 use Rattle.job_core.proofs.Fitting.{fits-read}
 use Rattle.job_core.proofs.JobSpelled.{read-spelled}
@@ -116,18 +115,13 @@ spelled-entries j h =
     let entries : List ℕ = flat_map entry_record j.entries in
     back-bytes before entries (front-bytes (before ++ entries) (to_be_bytes w8 0) h)
 
-means : (b : Bool) (e : JobFault) (m f : JobFields) → (if b then Ok m else Err e) ≡ Ok f → m ≡ f
-means true e m f h = ok_is {E = JobFault} m f h
-means false e m f h = absurd cc
-
 pub job-fits : (limits : Limits) (bytes : List ℕ) (f : JobFields) → IsBytes bytes → limits.ranges ≤ 1024 → job_of limits bytes ≡ Ok f → FitsFields f
 job-fits limits bytes f fits published h =
-    let (j, text, fitting, is) = read-spelled limits bytes f fits h in
-    let same : meaning_of j ≡ f = means (nat_le (kept_in (meaning_of j).crls) limits.serials) _ (meaning_of j) f is in
-    let leaves : IsBytes (flat_map entry_record j.entries) = spelled-entries j (subst IsBytes text fits) in
+    let is = read-spelled limits bytes f fits h in
+    let leaves : IsBytes (flat_map entry_record is.contents.entries) = spelled-entries is.contents (subst IsBytes is.text fits) in
     fits-read limits bytes f fits published
-    (subst (λ (g : JobFields). All (λ c. IfOk c.outcome CrlFieldsFit) g.crls) same (crls-fit j.crls))
-    (subst (λ (g : JobFields). All (λ e. IfSome e EntryFieldsFit) g.entries) same (entries-fit j.entries fitting.entries leaves)) h
+    (subst (λ (g : JobFields). All (λ c. IfOk c.outcome CrlFieldsFit) g.crls) (sym is.means) (crls-fit is.contents.crls))
+    (subst (λ (g : JobFields). All (λ e. IfSome e EntryFieldsFit) g.entries) (sym is.means) (entries-fit is.contents.entries is.fits.entries leaves)) h
 
 pub fits-of : {X : Type 0} (view : X → JobFields) (limits : Limits) (bytes : List ℕ) (r : Result X JobFault) → IsBytes bytes → limits.ranges ≤ 1024
     → GivesUnless faults.NoMemory view r (job_of limits bytes) → IfOk r (λ x. FitsFields (view x))

@@ -1,9 +1,9 @@
 -- The layout of a job, line by line as in docs/FORMATS.md.
-use Rattle.std.specs.Prelude.{ℕ, zero, suc, ◌+◌, ◌-◌, ◌^◌, List, [], ◌∷◌, ◌++◌, length, Bool, ◌||◌, ◌==◌, nat_le}
+use Rattle.std.specs.Prelude.{ℕ, zero, suc, ◌+◌, ◌-◌, ◌^◌, List, [], ◌∷◌, length, Bool, ◌||◌, ◌==◌, nat_le}
 use Rattle.std.specs.Prelude.{if◌then◌else◌, Result, Ok, Err, Option, Some, None, codes}
 use Rattle.std.specs.Int.{w8, w32, w64, from_be_bytes}
 use Rattle.octets_core.specs.Layout.{Layout, ◌>>=◌, whole, refused, mapped, within, bytes_field}
-use Rattle.octets_core.specs.Reading.{value_of, fault_at, number, octets, length_of_three, key, any_key, magic, end}
+use Rattle.octets_core.specs.Reading.{fault_at, number, octets, length_of_three, key, any_key, magic, end}
 use Rattle.octets_core.specs.declared.field.Field.TheVariants as fields
 use Rattle.octets_core.specs.declared.fault.Why.TheVariants as why
 use Rattle.octets_core.specs.declared.fault.LayoutFault.{LayoutFault}
@@ -19,7 +19,7 @@ use Rattle.job_core.specs.declared.bounds.What.TheVariants as what
 use Rattle.job_core.specs.declared.records.TheConstants.{MAX_CRL}
 use Rattle.job_core.specs.declared.fault.JobFault.{JobFault}
 use Rattle.job_core.specs.declared.fault.JobFault.TheVariants as faults
-use Rattle.job_core.specs.JobFields.{CrlMeaning, JobFields}
+use Rattle.job_core.specs.JobFields.{CrlMeaning}
 
 -- a layout whose faults are those of its fields
 abbrev pub fielded : {A : Type 0} → Layout LayoutFault A → Layout JobFault A
@@ -199,26 +199,3 @@ crl_meaning c = record { issuer = c.issuer; outcome = outcome c.bytes }
 -- an entry that can't be read is none
 abbrev pub entry_meaning : EntryText → Option Entry
 entry_meaning e = entry_of e.log e.leaf e.extra
-
--- with what one record says
-abbrev pub saying_one : JobFields → Item → JobFields
-saying_one f (OneRange r) = record f { ranges = f.ranges ++ r ∷ [] }
-saying_one f (OneCrl c) = record f { crls = f.crls ++ crl_meaning c ∷ [] }
-saying_one f (OneEntry e) = record f { entries = f.entries ++ entry_meaning e ∷ [] }
-
--- with what records say
-abbrev pub saying : JobFields → List Item → JobFields
-saying f [] = f
-saying f (x ∷ xs) = saying (saying_one f x) xs
-
--- a job before its first record
-abbrev pub begun : ℕ → ℕ → JobFields
-begun epoch moment = record { epoch = epoch; moment = moment; ranges = []; crls = []; entries = [] }
-
-abbrev pub said_by : Result JobTexts JobFault → Result JobFields JobFault
-said_by (Ok t) = Ok (saying (begun t.epoch t.moment) t.items)
-said_by (Err e) = Err e
-
--- the job of these bytes, or the first fault in their order
-abbrev pub job_of : Limits → List ℕ → Result JobFields JobFault
-job_of limits bytes = said_by (value_of (job serials_of limits bytes 0))

@@ -14,6 +14,7 @@ use Rattle.job_core.specs.declared.raw.RawCrl.{RawCrl}
 use Rattle.job_core.specs.declared.raw.RawEntry.{RawEntry}
 use Rattle.job_core.specs.declared.raw.RawJob.{RawJob}
 use Rattle.job_core.specs.JobLayout.{CrlText, EntryText, Item, OneRange, OneCrl, OneEntry, HeldSoFar, with_item, with_serials}
+use Rattle.job_core.specs.JobLayout.{JobTexts}
 
 -- what the records of a job hold, in their order, with CRLs and entries as they stand
 pub record JobContents : Type 0 where
@@ -46,6 +47,35 @@ unfoldable pub spelling : JobContents → List ℕ
 spelling j =
     codes "CLUBJOB1" ++ to_be_bytes w64 j.epoch ++ to_be_bytes w64 j.moment
     ++ flat_map range_record j.ranges ++ flat_map crl_record j.crls ++ flat_map entry_record j.entries ++ to_be_bytes w8 0
+
+-- ---- what records hold, each kind by itself
+
+abbrev pub ranges_in : List Item → List Range
+ranges_in [] = []
+ranges_in (OneRange r ∷ xs) = r ∷ ranges_in xs
+ranges_in (OneCrl c ∷ xs) = ranges_in xs
+ranges_in (OneEntry e ∷ xs) = ranges_in xs
+
+abbrev pub crls_in : List Item → List CrlText
+crls_in [] = []
+crls_in (OneRange r ∷ xs) = crls_in xs
+crls_in (OneCrl c ∷ xs) = c ∷ crls_in xs
+crls_in (OneEntry e ∷ xs) = crls_in xs
+
+abbrev pub entries_in : List Item → List EntryText
+entries_in [] = []
+entries_in (OneRange r ∷ xs) = entries_in xs
+entries_in (OneCrl c ∷ xs) = entries_in xs
+entries_in (OneEntry e ∷ xs) = e ∷ entries_in xs
+
+abbrev pub contents_in : JobTexts → JobContents
+contents_in t = record {
+  epoch = t.epoch;
+  moment = t.moment;
+  ranges = ranges_in t.items;
+  crls = crls_in t.items;
+  entries = entries_in t.items;
+}
 
 -- ---- which contents have a text
 

@@ -5,7 +5,7 @@ ghost use Rattle.ident_core.specs.declared.bounds.TheConstants.{MAX_RANGES};
 ghost use Rattle.job_core.specs.declared.bounds.Limits.{Limits};
 ghost use Rattle.job_core.specs.JobFields.{JobFields};
 ghost use Rattle.job_core.specs.Fitting.{FitsFields, IsWithinLimits};
-ghost use Rattle.job_core.specs.JobLayout.{job_of};
+ghost use Rattle.job_core.specs.JobMeaning.{job_of};
 
 /// A job that bytes are read as fits its fields and keeps the limits, whatever reads them.
 pub fn jobs_that_are_read_fit()

@@ -2,13 +2,12 @@
 
 ghost use Rattle.std.specs.Prelude.{◌≡◌, ◌≢◌, ◌+◌, ◌≤◌, length, Ok, Err, IfOk, IfErr, OnOk};
 ghost use Rattle.job_core.specs.JobFields.{outcome_view, fields_of_job, AreWithin};
-ghost use Rattle.job_core.specs.JobLayout.{OneRange, OneCrl, OneEntry, kept, saying_one, job_of};
-ghost use Rattle.job_core.specs.Partial.{TakesOne};
+ghost use Rattle.job_core.specs.JobLayout.{OneRange, OneCrl, OneEntry, kept};
+ghost use Rattle.job_core.specs.Partial.{saying_one, TakesOne};
 ghost use Rattle.crl_core.specs.Outcome.{outcome};
 ghost use Rattle.log_core.specs.Entries.{entry_of};
 ghost use Rattle.octets_core.specs.Reading.{GivesUnless};
-ghost use Rattle.job_core.specs.JobText.{JobContents, FitsJob, spelling};
-ghost use Rattle.job_core.specs.JobMeaning.{reading_of};
+ghost use Rattle.job_core.specs.JobMeaning.{IsJob, IsJobOf, job_of};
 ghost use Rattle.job_core.specs.Fitting.{FitsFields, IsWithinLimits};
 ghost use Rattle.job_core.specs.Offsets.{offset_in_job};
 
@@ -111,10 +110,9 @@ fn job_in(alloc: Global, bytes: &[u8], limits: &Limits) -> Result<Job, JobFault>
 /// The answer is never `ReadFault`.
 pub fn read_job(alloc: Global, bytes: &[u8], limits: &Limits) -> Result<Job, JobFault>
     requires { AreWithin limits.now Limits.PUBLISHED }
-    ensures exact { GivesUnless JobFault.NoMemory fields_of_job result (job_of limits.now bytes.now) }
-    // What is read is spelled so, each byte of it, and says what its records mean.
-    ensures found { IfOk result (λ job. (j : JobContents) × (bytes.now ≡ spelling j) × FitsJob limits.now j
-        × (reading_of limits.now j ≡ Ok (fields_of_job job))) }
+    // The bytes are the text of what a job holds, each of them, and the answer is what it means.
+    ensures found { IfOk result (λ job. IsJob limits.now bytes.now (fields_of_job job)) }
+    ensures fault { IfErr result (λ e. e ≢ JobFault.NoMemory → IsJobOf limits.now bytes.now (Err e)) }
     ensures fits { IfOk result (λ job. FitsFields (fields_of_job job)) }
     ensures within { IfOk result (λ job. IsWithinLimits limits.now (fields_of_job job)) }
     ensures at { IfErr result (λ e. offset_in_job e ≤ length bytes.now) }

@@ -6,9 +6,10 @@ ghost use Rattle.outside_core.specs.Standing.{place_of, StandsIn};
 ghost use Rattle.crl_core.specs.Outcome.{CrlFieldsFit};
 ghost use Rattle.job_core.specs.JobFields.{crl_view, fields_of_job, AreWithin};
 ghost use Rattle.job_core.specs.Fitting.{EntryFieldsFit, FitsFields, IsWithinLimits};
-ghost use Rattle.job_core.specs.JobLayout.{OneEntry, begun, job_of, saying_one};
+ghost use Rattle.job_core.specs.JobLayout.{OneEntry};
 ghost use Rattle.job_core.specs.JobText.{entry_held};
-ghost use Rattle.job_core.specs.Partial.{records_saying};
+ghost use Rattle.job_core.specs.JobMeaning.{job_of};
+ghost use Rattle.job_core.specs.Partial.{begun, records_saying, saying_one};
 ghost use Rattle.outside_core.specs.Pulling.{Pulled};
 ghost use Rattle.job_core.specs.Pulling.{Blames, Comes, Fetches, IsGiven, ReadsJob};
 

@@ -2,10 +2,9 @@
 
 ghost use Rattle.std.specs.Prelude.{◌≡◌, ◌++◌, ◌↔◌, IsTrue, IfOk, OnOk, flat_map, All};
 ghost use Rattle.ident_core.specs.RangeText.{RangeFits};
-ghost use Rattle.job_core.specs.JobLayout.{job_of};
 ghost use Rattle.job_core.specs.JobText.{range_record, crl_record, entry_record, spelling, crl_held, entry_held};
 ghost use Rattle.job_core.specs.JobText.{contents_of, FitsCrl, FitsEntry, FitsJob, CrlFits, EntryFits, JobFits};
-ghost use Rattle.job_core.specs.JobMeaning.{reading_of};
+ghost use Rattle.job_core.specs.JobMeaning.{reading_of, job_of};
 
 use crate::bounds::Limits;
 use crate::raw::{RawCrl, RawEntry, RawJob};

@@ -11,7 +11,8 @@ use Rattle.job_core.proofs.Passing.{texts_of}
 use Rattle.place_core.specs.declared.place.By.{By}
 use Rattle.gather_core.specs.Raw.{raw_job, contents_in, entries_in}
 use Rattle.gather_core.proofs.Records.{Fits, AllFit, pass-fits, same_texts, texts-more, texts-few, fits-more, entries-more}
-use Rattle.gather_core.proofs.Reread.{read-job, spelled}
+use Rattle.job_core.proofs.Sorting.{spelled}
+use Rattle.gather_core.proofs.Reread.{read-job}
 use Rattle.piece_core.specs.declared.cutting.Pieces.{Pieces}
 use Rattle.place_core.specs.Cuts.{at_place}
 use Rattle.piece_core.specs.Texts.{text_at, has_part, part_at, IsLonger}
@@ -91,6 +92,6 @@ front-whole by n numbers file b old pieces count all f is l (h, c, t, ends, begi
             ∙ ap (λ (xs : List Item). opening_text t.epoch t.moment ++ (texts_of (kept (at_place by n p) xs) ++ zero)) (sym read)
             ∙ cut_spelled (at_place by n p) limits.PUBLISHED t begins.pass;
         entries = f.count ∙ ap (λ (xs : List Item). length (entries_in xs)) (sym read);
-        bytes = size ∙ ap (λ (l : List ℕ). length l) (text ∙ spelled limits.PUBLISHED t begins.pass);
+        bytes = size ∙ ap (λ (l : List ℕ). length l) (text ∙ spelled _ limits.PUBLISHED t begins.pass);
       },
     )

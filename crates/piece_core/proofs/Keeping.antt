@@ -14,7 +14,7 @@ use Rattle.job_core.proofs.Items.{items}
 use Rattle.job_core.proofs.JobReads.{spelling-is}
 use Rattle.job_core.proofs.Passing.{texts_of}
 use Rattle.gather_core.specs.Raw.{contents_in, ranges_in, crls_in, entries_in}
-use Rattle.gather_core.proofs.Sorting.{sorted}
+use Rattle.job_core.proofs.Sorting.{sorted}
 use Rattle.place_core.specs.Cuts.{Cut}
 use Rattle.piece_core.specs.Cuts.{keeps_entry, kept_texts, cut_contents}
 
@@ -73,6 +73,6 @@ pub cut_spelled : (cut : Cut) (limits : Limits) (t : JobTexts) → Pass no_seria
     → opening_text t.epoch t.moment ++ (texts_of (kept cut t.items) ++ to_be_bytes w8 0) ≡ spelling (cut_contents cut (contents_in t))
 cut_spelled cut limits t pass =
     ap (λ (l : List Item). opening_text t.epoch t.moment ++ (texts_of l ++ to_be_bytes w8 0))
-    (ap (kept cut) (sym (sorted limits nothing_held 0 t.items pass).is)
+    (ap (kept cut) (sym (sorted _ limits nothing_held 0 t.items pass).is)
     ∙ kept_items cut (ranges_in t.items) (crls_in t.items) (entries_in t.items))
     ∙ sym (spelling-is (cut_contents cut (contents_in t)))

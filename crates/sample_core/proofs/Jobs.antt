@@ -6,8 +6,7 @@ use Rattle.std.proofs.lemmas.List.Elements.{All-nil, All-cons}
 use Rattle.std.proofs.lemmas.List.FromFn.{length-map-range_with_len}
 use Rattle.job_core.specs.declared.bounds.TheConstants.Limits.{PUBLISHED}
 use Rattle.job_core.specs.declared.bounds.Limits.{Limits}
-use Rattle.job_core.specs.JobLayout.{job_of}
-use Rattle.job_core.specs.JobMeaning.{reading_of}
+use Rattle.job_core.specs.JobMeaning.{reading_of, job_of}
 use Rattle.job_core.specs.JobText.{JobContents, FitsJob, FitsCrl, FitsEntry, spelling}
 use Rattle.sample_core.specs.Sample.{entry, entries_of, der_length, sequence, sequence_of_some, date, algorithm, revoked_entries, crl_body, crl_with, crl, sample_contents, sample_text}
 use Rattle.sample_core.proofs.Texts.{log-length, issuer-length, leaf-length, revoked-more, revoked-longer}

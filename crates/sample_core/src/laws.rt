@@ -3,9 +3,8 @@
 ghost use Rattle.std.specs.Prelude.{◌≡◌, ◌≤◌, ◌<◌, ℕ, Ok, IsOk, All};
 ghost use Rattle.ident_core.specs.declared.bounds.TheConstants.{MAX_SAMPLE};
 ghost use Rattle.crl_core.specs.Outcome.{outcome};
-ghost use Rattle.job_core.specs.JobLayout.{job_of};
 ghost use Rattle.job_core.specs.JobText.{FitsJob};
-ghost use Rattle.job_core.specs.JobMeaning.{meaning_of, kept_in, reading_of};
+ghost use Rattle.job_core.specs.JobMeaning.{meaning_of, kept_in, reading_of, job_of};
 ghost use Rattle.job_core.specs.Fitting.{IsWithinLimits};
 ghost use Rattle.sample_core.specs.Sample.{crl, sample_contents, sample_text, sample_revoked};
 ghost use Rattle.sample_core.specs.Accepted.{crl_fields};

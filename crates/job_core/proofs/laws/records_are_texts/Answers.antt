@@ -1,6 +1,5 @@
 use Rattle.std.proofs.Common.{◌-◌, length, arith}
 use Rattle.job_core.proofs.Steps.{fails, enough}
-use Rattle.job_core.specs.JobLayout.{begun}
 use Rattle.job_core.proofs.Items.{serials-kept}
 use Rattle.job_core.proofs.Passing.{passes}
 use Rattle.job_core.proofs.laws.records_are_texts.Goals as goal
@@ -15,4 +14,4 @@ pub returns-clause-steps : goal.returns-clause-steps
 returns-clause-steps c = λ brings n limits h serials bytes at le. enough brings limits n (length bytes - at) h serials bytes at le (omega arith)
 
 pub returns-clause-serials : goal.returns-clause-serials
-returns-clause-serials c = λ xs. serials-kept (begun 0 0) xs
+returns-clause-serials c = λ xs. omega (arith, serials-kept 0 xs)

@@ -1,7 +1,7 @@
 use Rattle.std.proofs.Common.{List, [], ℕ, Some, ap, ◌∙◌}
 use Rattle.outside_core.specs.Standing.{file_in}
 use Rattle.job_core.specs.JobFields.{fields_of_job}
-use Rattle.job_core.specs.JobLayout.{job_of}
+use Rattle.job_core.specs.JobMeaning.{job_of}
 use Rattle.outside_core.proofs.SliceFiles.{only, file-there, never-fails, slice_ghosts}
 use Rattle.job_core.proofs.JobGiven.{comes-from}
 use Rattle.job_core.proofs.reading.job_in.Goals as goal

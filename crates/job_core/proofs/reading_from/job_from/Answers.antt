@@ -2,8 +2,8 @@ use Rattle.std.proofs.Common.{ℕ, Ok, Err, subst, ◌∙◌, refl, arith}
 use Rattle.std.proofs.lemmas.Result.{err_from_is_err_and}
 use Rattle.job_core.specs.declared.meaning.Job.{Job}
 use Rattle.job_core.specs.JobFields.{JobFields, fields_of_job}
-use Rattle.job_core.specs.JobLayout.{fielded, opening, begun}
-use Rattle.job_core.specs.Partial.{records_saying}
+use Rattle.job_core.specs.JobLayout.{fielded, opening}
+use Rattle.job_core.specs.Partial.{begun, records_saying}
 use Rattle.job_core.specs.Pulling.{Fetches}
 use Rattle.outside_core.proofs.Pulling.{pulled-then}
 use Rattle.job_core.proofs.Fetching.{blames-then, fetched-then, fetched-err}

@@ -1,16 +1,17 @@
--- Records that pass are ranges, then CRLs, then entries.
-use Rattle.std.proofs.Common.{◌≡◌, ℕ, ◌+◌, ◌≤◌, List, [], ◌∷◌, length, Some, refl, ap, arith}
+-- Records that pass are ranges, then CRLs, then entries, and what they hold fits.
+use Rattle.std.proofs.Common.{◌≡◌, ℕ, ◌+◌, ◌≤◌, ◌<◌, ◌^◌, List, [], ◌∷◌, ◌++◌, length, Some, refl, sym, ap, ◌∙◌, arith}
 use Rattle.std.specs.Prelude.{All}
+use Rattle.std.specs.Int.{w8, to_be_bytes}
 use Rattle.std.proofs.lemmas.List.Elements.{All-nil, All-cons}
 use Rattle.octets_core.specs.Linked.{Linked}
 use Rattle.ident_core.specs.declared.range.Range.{Range}
 use Rattle.ident_core.specs.RangeText.{FitsRange}
 use Rattle.job_core.specs.declared.bounds.Limits.{Limits}
-use Rattle.job_core.specs.JobLayout.{CrlText, EntryText, HeldSoFar, Item, OneRange, OneCrl, OneEntry, with_item}
-use Rattle.job_core.specs.JobText.{FitsCrl, FitsEntry, Pass}
-use Rattle.job_core.specs.Reader.{no_serials}
+use Rattle.job_core.specs.JobLayout.{CrlText, EntryText, HeldSoFar, nothing_held, Item, OneRange, OneCrl, OneEntry, with_item, JobTexts}
+use Rattle.job_core.specs.JobText.{opening_text, spelling, ranges_in, crls_in, entries_in, contents_in, FitsCrl, FitsEntry, FitsJob, Pass}
 use Rattle.job_core.proofs.Items.{items}
-use Rattle.gather_core.specs.Raw.{ranges_in, crls_in, entries_in}
+use Rattle.job_core.proofs.JobReads.{spelling-is}
+use Rattle.job_core.proofs.Passing.{texts_of}
 
 pub record Sorts (limits : Limits) (h : HeldSoFar) (xs : List Item) : Type 0 where
   pub is : items (ranges_in xs) (crls_in xs) (entries_in xs) ≡ xs
@@ -34,8 +35,8 @@ entries-first e xs [] [] no_ranges no_crls is = ap (λ (l : List Item). OneEntry
 entries-first e xs (r ∷ rs) cs no_ranges no_crls is = absurd cc
 entries-first e xs [] (c ∷ cs) no_ranges no_crls is = absurd cc
 
-pub sorted : (limits : Limits) (h : HeldSoFar) (serials : ℕ) (xs : List Item) → Pass no_serials limits h serials xs → Sorts limits h xs
-sorted limits h serials [] pass = record {
+pub sorted : (brings : List ℕ → ℕ) (limits : Limits) (h : HeldSoFar) (serials : ℕ) (xs : List Item) → Pass brings limits h serials xs → Sorts limits h xs
+sorted brings limits h serials [] pass = record {
   is = refl;
   few_ranges = λ le. omega (arith, le);
   few_crls = λ le. omega (arith, le);
@@ -46,8 +47,8 @@ sorted limits h serials [] pass = record {
   no_ranges = λ le. refl;
   no_crls = λ le. refl;
 }
-sorted limits h serials (OneRange r ∷ xs) pass =
-    let s = sorted limits (with_item h (OneRange r)) _ xs pass.2 in
+sorted brings limits h serials (OneRange r ∷ xs) pass =
+    let s = sorted brings limits (with_item h (OneRange r)) _ xs pass.2 in
     let fits = pass.0 in
     record {
       is = ap (λ (l : List Item). OneRange r ∷ l) s.is;
@@ -60,8 +61,8 @@ sorted limits h serials (OneRange r ∷ xs) pass =
       no_ranges = λ le. absurd (omega (arith, le, fits.1));
       no_crls = λ le. absurd (omega (arith, le, fits.1));
     }
-sorted limits h serials (OneCrl c ∷ xs) pass =
-    let s = sorted limits (with_item h (OneCrl c)) _ xs pass.2 in
+sorted brings limits h serials (OneCrl c ∷ xs) pass =
+    let s = sorted brings limits (with_item h (OneCrl c)) _ xs pass.2 in
     let fits = pass.0 in
     let none = s.no_ranges (omega arith) in
     record {
@@ -75,8 +76,8 @@ sorted limits h serials (OneCrl c ∷ xs) pass =
       no_ranges = λ le. none;
       no_crls = λ le. absurd (omega (arith, le, fits.1));
     }
-sorted limits h serials (OneEntry e ∷ xs) pass =
-    let s = sorted limits (with_item h (OneEntry e)) _ xs pass.2 in
+sorted brings limits h serials (OneEntry e ∷ xs) pass =
+    let s = sorted brings limits (with_item h (OneEntry e)) _ xs pass.2 in
     let fits = pass.0 in
     let no_ranges = s.no_ranges (omega arith) in
     let no_crls = s.no_crls (omega arith) in
@@ -90,4 +91,25 @@ sorted limits h serials (OneEntry e ∷ xs) pass =
       entries_fit = All-cons FitsEntry e (entries_in xs) fits.0 s.entries_fit;
       no_ranges = λ le. no_ranges;
       no_crls = λ le. no_crls;
+    }
+
+-- their texts are the text of what they hold
+pub spelled : (brings : List ℕ → ℕ) (limits : Limits) (t : JobTexts) → Pass brings limits nothing_held 0 t.items
+    → opening_text t.epoch t.moment ++ (texts_of t.items ++ to_be_bytes w8 0) ≡ spelling (contents_in t)
+spelled brings limits t pass =
+    ap (λ (l : List Item). opening_text t.epoch t.moment ++ (texts_of l ++ to_be_bytes w8 0)) (sym (sorted brings limits nothing_held 0 t.items pass).is) ∙ sym (spelling-is (contents_in t))
+
+-- and this fits
+pub fits-job : (brings : List ℕ → ℕ) (limits : Limits) (t : JobTexts) → t.epoch < 2 ^ 64 → t.moment < 2 ^ 64 → Pass brings limits nothing_held 0 t.items → FitsJob limits (contents_in t)
+fits-job brings limits t epoch moment pass =
+    let s = sorted brings limits nothing_held 0 t.items pass in
+    record {
+      epoch = epoch;
+      moment = moment;
+      few_ranges = omega (arith, s.few_ranges (omega arith));
+      ranges = s.ranges_fit;
+      few_crls = omega (arith, s.few_crls (omega arith));
+      crls = s.crls_fit;
+      few_entries = omega (arith, s.few_entries (omega arith));
+      entries = s.entries_fit;
     }
