@@ -1,20 +1,15 @@
 -- What holds of a job that was read, from what its text holds.
-use Rattle.std.proofs.Common.{◌≡◌, ℕ, ◌≤◌, List, length, Result, Ok, Err, sym, subst, arith, IfOk}
+use Rattle.std.proofs.Common.{◌≡◌, ℕ, ◌≤◌, List, length, sym, subst, arith, IfOk}
 use Rattle.std.specs.Prelude.{All, IfSome}
 use Rattle.std.proofs.lemmas.List.{length-map}
 use Rattle.std.proofs.lemmas.List.Elements.{All-map}
-use Rattle.octets_core.specs.Reading.{GivesUnless}
-use Rattle.octets_core.proofs.Texts.{IsBytes}
 use Rattle.ident_core.proofs.RangeTexts.{ranges-ascend}
 use Rattle.job_core.specs.declared.bounds.Limits.{Limits}
-use Rattle.job_core.specs.declared.fault.JobFault.{JobFault}
-use Rattle.job_core.specs.declared.fault.JobFault.TheVariants as faults
 use Rattle.job_core.specs.JobFields.{CrlMeaning, JobFields}
 use Rattle.job_core.specs.JobText.{JobContents, FitsJob}
-use Rattle.job_core.specs.JobMeaning.{crl_meaning, entry_meaning, meaning_of, kept_in, job_of}
+use Rattle.job_core.specs.JobMeaning.{crl_meaning, entry_meaning, meaning_of, kept_in, IsJob}
 use Rattle.crl_core.specs.Outcome.{CrlFieldsFit}
 use Rattle.job_core.specs.Fitting.{EntryFieldsFit, FitsPublishing, FitsFields, IsWithinLimits}
-use Rattle.job_core.proofs.JobSpelled.{read-spelled}
 
 within-meaning : (limits : Limits) (j : JobContents) → FitsJob limits j → kept_in (meaning_of j).crls ≤ limits.serials → IsWithinLimits limits (meaning_of j)
 within-meaning limits j fits few = record {
@@ -35,21 +30,14 @@ fits-meaning limits j fits published entries = record {
   entries = entries;
 }
 
-pub within-read : (limits : Limits) (bytes : List ℕ) (f : JobFields) → IsBytes bytes → job_of limits bytes ≡ Ok f → IsWithinLimits limits f
-within-read limits bytes f fits h =
-    let is = read-spelled limits bytes f fits h in
+pub within-job : (limits : Limits) (bytes : List ℕ) (f : JobFields) → IsJob limits bytes f → IsWithinLimits limits f
+within-job limits bytes f is =
     subst (λ (g : JobFields). kept_in g.crls ≤ limits.serials → IsWithinLimits limits g) (sym is.means) (within-meaning limits is.contents is.fits) is.few_serials
 
-pub fits-read : (limits : Limits) (bytes : List ℕ) (f : JobFields) → IsBytes bytes → limits.ranges ≤ 1024
-    → All (λ c. IfOk c.outcome CrlFieldsFit) f.crls → All (λ e. IfSome e EntryFieldsFit) f.entries → job_of limits bytes ≡ Ok f → FitsFields f
-fits-read limits bytes f fits published crls entries h =
-    let is = read-spelled limits bytes f fits h in
-    record {
-      publishing = subst (λ (g : JobFields). All (λ e. IfSome e EntryFieldsFit) g.entries → FitsPublishing g) (sym is.means) (λ all. fits-meaning limits is.contents is.fits published all) entries;
-      accepted = crls;
-    }
-
-pub within-of : {X : Type 0} (view : X → JobFields) (limits : Limits) (bytes : List ℕ) (r : Result X JobFault) → IsBytes bytes
-    → GivesUnless faults.NoMemory view r (job_of limits bytes) → IfOk r (λ x. IsWithinLimits limits (view x))
-within-of view limits bytes (Ok x) fits h = within-read limits bytes (view x) fits h
-within-of view limits bytes (Err e) fits h = tt
+pub fits-read : (limits : Limits) (bytes : List ℕ) (f : JobFields) → limits.ranges ≤ 1024
+    → All (λ c. IfOk c.outcome CrlFieldsFit) f.crls → All (λ e. IfSome e EntryFieldsFit) f.entries → IsJob limits bytes f → FitsFields f
+fits-read limits bytes f published crls entries is = record {
+  publishing = subst (λ (g : JobFields). All (λ e. IfSome e EntryFieldsFit) g.entries → FitsPublishing g) (sym is.means)
+      (λ all. fits-meaning limits is.contents is.fits published all) entries;
+  accepted = crls;
+}

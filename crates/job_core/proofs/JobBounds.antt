@@ -4,7 +4,7 @@ use Rattle.std.specs.Prelude.{nat_le, if◌then◌else◌}
 use Rattle.std.specs.Int.{Width, w32, w64}
 use Rattle.octets_core.specs.Layout.{Layout, ◌>>=◌, whole, refused}
 use Rattle.octets_core.specs.Linked.{is_after}
-use Rattle.octets_core.specs.Reading.{GivesUnless, value_of, fault_at, number, length_of_three, end}
+use Rattle.octets_core.specs.Reading.{GivesUnless, fault_at, number, length_of_three, end}
 use Rattle.octets_core.proofs.Bounds.{IsWithin, IsBounded, bytes_field-bounded, number_field-bounded, whole-bounded, mapped-bounded, ◌>>>◌}
 use Rattle.octets_core.specs.declared.field.Field.{Field}
 use Rattle.octets_core.specs.declared.field.Field.TheVariants as fields
@@ -18,8 +18,10 @@ use Rattle.job_core.specs.declared.fault.JobFault.{JobFault}
 use Rattle.job_core.specs.declared.fault.JobFault.TheVariants as faults
 use Rattle.job_core.specs.JobFields.{JobFields}
 use Rattle.job_core.specs.JobLayout.{fielded, record_kind, crl, entry, HeldSoFar, nothing_held, Item, at_most, range_item, crl_item, entry_item, item_of}
-use Rattle.job_core.specs.JobLayout.{next_item, with_item, serials_of, with_serials, with_others, records_within, records, opening, JobTexts, job}
-use Rattle.job_core.specs.JobMeaning.{meant, job_of}
+use Rattle.job_core.specs.JobLayout.{next_item, with_item, serials_of, with_serials, with_others, records_within, records, opening, job}
+use Rattle.job_core.specs.JobMeaning.{IsJobOf, job_of}
+use Rattle.job_core.specs.Pulling.{IsOfBytes, AnswersJob}
+use Rattle.job_core.proofs.JobSpelled.{read-fault}
 use Rattle.job_core.specs.Offsets.{offset_in_job}
 
 abbrev offset : LayoutFault → ℕ
@@ -162,30 +164,15 @@ never-reads brings limits bytes h =
     let far : n ≤ length bytes = subst (IsWithin (place n) bytes) h ((job-bounded brings n limits).each bytes 0 (omega arith)) in
     omega (arith, far)
 
-fault-within : (n : ℕ) (bytes : List ℕ) (e : JobFault) (read : Result (JobTexts × ℕ) JobFault) → IsWithin (place n) bytes read → meant (value_of read) ≡ Err e → place n e ≤ length bytes
-fault-within n bytes e (Ok x) h is = absurd cc
-fault-within n bytes e (Err d) h is =
-    let same : d ≡ e = cc in
-    subst (λ (f : JobFault). place n f ≤ length bytes) same h
-
-fault-place : (n : ℕ) (limits : Limits) (bytes : List ℕ) (e : JobFault) → job_of limits bytes ≡ Err e → place n e ≤ length bytes
-fault-place n limits bytes e is = fault-within n bytes e (job serials_of limits bytes 0) ((job-bounded serials_of n limits).each bytes 0 (omega arith)) is
-
-offset-of : (limits : Limits) (bytes : List ℕ) (e : JobFault) → ((e ≡ faults.NoMemory → ⊥) → job_of limits bytes ≡ Err e) → offset_in_job e ≤ length bytes
+offset-of : (limits : Limits) (bytes : List ℕ) (e : JobFault) → (IsOfBytes e → IsJobOf limits bytes (Err e)) → offset_in_job e ≤ length bytes
 offset-of limits bytes faults.NoMemory h = omega arith
 offset-of limits bytes faults.ReadFault h = omega arith
 offset-of limits bytes (faults.TooMany thing limit) h = omega arith
-offset-of limits bytes (faults.Layout f) h = fault-place 0 limits bytes (faults.Layout f) (h (λ e. cc))
-
-never-read_fault : (limits : Limits) (bytes : List ℕ) (e : JobFault) → ((e ≡ faults.NoMemory → ⊥) → job_of limits bytes ≡ Err e) → e ≡ faults.ReadFault → ⊥
-never-read_fault limits bytes e h is =
-    let none : e ≡ faults.NoMemory → ⊥ = λ other. cc in
-    let far = fault-place (length bytes + 1) limits bytes faults.ReadFault (subst (λ (f : JobFault). job_of limits bytes ≡ Err f) is (h none)) in
-    omega (arith, far)
+offset-of limits bytes (faults.Layout f) h =
+    subst (IsWithin (place 0) bytes) (h (λ same. absurd cc, λ same. absurd cc)) ((job-bounded serials_of 0 limits).each bytes 0 (omega arith))
 
 -- a fault lies within the bytes
-pub at-of : {X : Type 0} (view : X → JobFields) (limits : Limits) (bytes : List ℕ) (r : Result X JobFault)
-    → GivesUnless faults.NoMemory view r (job_of limits bytes) → IfErr r (λ e. offset_in_job e ≤ length bytes)
+pub at-of : {X : Type 0} (view : X → JobFields) (limits : Limits) (bytes : List ℕ) (r : Result X JobFault) → AnswersJob view limits bytes r → IfErr r (λ e. offset_in_job e ≤ length bytes)
 at-of view limits bytes (Ok x) h = tt
 at-of view limits bytes (Err e) h = offset-of limits bytes e h
 
@@ -193,4 +180,6 @@ at-of view limits bytes (Err e) h = offset-of limits bytes e h
 pub never-of : {X : Type 0} (view : X → JobFields) (limits : Limits) (bytes : List ℕ) (r : Result X JobFault)
     → GivesUnless faults.NoMemory view r (job_of limits bytes) → IfErr r (λ e. e ≡ faults.ReadFault → ⊥)
 never-of view limits bytes (Ok x) h = tt
-never-of view limits bytes (Err e) h = never-read_fault limits bytes e h
+never-of view limits bytes (Err e) h = λ is.
+    let none : e ≡ faults.NoMemory → ⊥ = λ other. cc in
+    never-reads serials_of limits bytes (read-fault limits bytes faults.ReadFault (subst (λ (f : JobFault). job_of limits bytes ≡ Err f) is (h none)))

@@ -1,12 +1,13 @@
 -- A job, by the bytes that a feed gave.
 use Rattle.std.proofs.Common.{◌≡◌, ℕ, ◌-◌, ◌^◌, ◌≤◌, ◌<◌, Bool, true, false, List, [], ◌∷◌, ◌++◌, length}
-use Rattle.std.proofs.Common.{take, Option, Some, None, Result, Ok, Err, refl, sym, ap, subst, ◌∙◌, arith, IfOk, length-append}
+use Rattle.std.proofs.Common.{take, Option, Some, None, Result, Ok, Err, refl, sym, ap, subst, ◌∙◌, arith, IfOk, IfErr, length-append}
 use Rattle.std.specs.Prelude.{IfSome}
 use Rattle.std.specs.Option.{option_map}
 use Rattle.std.specs.FinMap.{get}
 use Rattle.std.proofs.lemmas.Bool.{le-ltb}
+use Rattle.std.proofs.lemmas.List.{take_all}
 use Rattle.octets_core.specs.Layout.{Layout, ◌>>=◌, then_read, with_fault}
-use Rattle.octets_core.specs.Reading.{GivesUnless, end}
+use Rattle.octets_core.specs.Reading.{end}
 use Rattle.octets_core.specs.declared.fault.LayoutFault.{LayoutFault}
 use Rattle.outside_core.specs.declared.depot.Depot.{Ghosts}
 use Rattle.outside_core.specs.declared.feed.Feed.{Feed}
@@ -24,9 +25,10 @@ use Rattle.job_core.specs.JobLayout.{fielded, opening}
 use Rattle.job_core.specs.JobMeaning.{job_of}
 use Rattle.job_core.specs.Partial.{begun, records_saying}
 use Rattle.outside_core.specs.Pulling.{Pulled}
-use Rattle.job_core.specs.Pulling.{IsOfBytes, Blames, Comes, Lies, Fetches, SeesMore, ReadsJob}
+use Rattle.job_core.specs.Pulling.{AreBytes, IsOfBytes, AnswersJob, Blames, Lies, Fetches, SeesMore, ReadsJob}
 use Rattle.job_core.proofs.Given.{lies-first, lies-both, lies-last, lies-self, lies-whole}
-use Rattle.job_core.proofs.Fitting.{within-read}
+use Rattle.job_core.proofs.Fitting.{within-job}
+use Rattle.job_core.proofs.JobSpelled.{read-fault, read-spelled}
 use Rattle.job_core.proofs.ReadFacts.{job-fits}
 use Rattle.job_core.proofs.Saying.{opening-fails, records-fail, end-comes, job-says}
 
@@ -59,7 +61,7 @@ ends_there file q le = rw (le-ltb q (length file) le) refl
 
 module _ {D X U : Type 0} (g : Ghosts D) (limits : Limits) (view : X → JobFields) (v : U → JobFields) (old mid : Feed D) (first : place_of old ≡ 0) where
   -- a fault before the end
-  pub reads-fault : (e : JobFault) → place_of mid < 2 ^ 64 - 1 → Fetches g v (up_to_end limits) old mid (Err e) → ReadsJob g view (job_of limits) old (Err e)
+  pub reads-fault : (e : JobFault) → place_of mid < 2 ^ 64 - 1 → Fetches g v (up_to_end limits) old mid (Err e) → ReadsJob g view limits old (Err e)
   reads-fault e near it = record {
     given = it.given;
     ended = it.ended;
@@ -67,8 +69,8 @@ module _ {D X U : Type 0} (g : Ghosts D) (limits : Limits) (view : X → JobFiel
     bytes = tt;
     lies = λ file stands. subst (λ (n : ℕ). Lies it.ended file n it.given) first (it.lies file stands);
     reads = λ file lies of.
-        fails-by limits file e (opening file 0) refl
-        (subst (λ (n : ℕ). up_to_end limits file n ≡ Err e) first (it.reads file (subst (λ (n : ℕ). Lies it.ended file n it.given) (sym first) lies) of));
+        read-fault limits file e (fails-by limits file e (opening file 0) refl
+        (subst (λ (n : ℕ). up_to_end limits file n ≡ Err e) first (it.reads file (subst (λ (n : ℕ). Lies it.ended file n it.given) (sym first) lies) of)));
   }
 
   module _ (u : U) (it : Fetches g v (up_to_end limits) old mid (Ok u)) where
@@ -85,7 +87,7 @@ module _ {D X U : Type 0} (g : Ghosts D) (limits : Limits) (view : X → JobFiel
 
     -- no byte is left
     pub reads-whole : (x : X) → v u ≡ view x → place_of mid < 2 ^ 64 - 1 → Pulled g old mid → ((file : List ℕ) → StandsIn g mid file → length file ≤ place_of mid)
-        → ReadsJob g view (job_of limits) old (Ok x)
+        → ReadsJob g view limits old (Ok x)
     reads-whole x same near pulled ends = record {
       given = it.given;
       ended = true;
@@ -94,13 +96,14 @@ module _ {D X U : Type 0} (g : Ghosts D) (limits : Limits) (view : X → JobFiel
       lies = λ file stands. lies-last file 0 it.given (omega (arith, ends file (pulled.stands file stands), it-size)) (it-lies file stands);
       reads = λ file lies.
           let front : Lies false file 0 it.given = record { within = lies.within; same = lies.same; last = λ is. absurd cc } in
-          says-by limits file (v u) (place_of mid) (opening file 0) refl (it-reads file front)
+          read-spelled limits file (view x) (subst AreBytes (lies.same ∙ take_all (length it.given) file (omega (arith, lies.last refl))) it.going.0)
+          (says-by limits file (v u) (place_of mid) (opening file 0) refl (it-reads file front)
           (ends_there file (place_of mid) (omega (arith, lies.last refl, it-size)))
-          ∙ ap (λ (f : JobFields). Ok f) same;
+          ∙ ap (λ (f : JobFields). Ok f) same);
     }
 
     -- nothing is known of the end
-    reads-none : (e : JobFault) → (IsOfBytes e → ⊥) → ReadsJob g view (job_of limits) old (Err e)
+    reads-none : (e : JobFault) → (IsOfBytes e → ⊥) → ReadsJob g view limits old (Err e)
     reads-none e not = record {
       given = it.given;
       ended = false;
@@ -110,7 +113,7 @@ module _ {D X U : Type 0} (g : Ghosts D) (limits : Limits) (view : X → JobFiel
       reads = λ file lies of. absurd (not of);
     }
 
-    reads-more : (e : JobFault) → Pulled g old mid → SeesMore g mid e → ReadsJob g view (job_of limits) old (Err e)
+    reads-more : (e : JobFault) → Pulled g old mid → SeesMore g mid e → ReadsJob g view limits old (Err e)
     reads-more e pulled (x, next, wrong) = record {
       given = it.given ++ x ∷ [];
       ended = false;
@@ -118,12 +121,13 @@ module _ {D X U : Type 0} (g : Ghosts D) (limits : Limits) (view : X → JobFiel
       bytes = tt;
       lies = λ file stands. lies-both false file 0 (place_of mid) it.given (x ∷ []) (omega (arith, it-size)) (it-lies file stands) (next file (pulled.stands file stands));
       reads = λ file lies of.
-          more-by limits file (v u) (place_of mid) e (opening file 0) refl (it-reads file (lies-first false file 0 it.given (x ∷ []) lies))
-          (wrong file (omega (arith, lies.within, it-size, length-append it.given (x ∷ []))));
+          read-fault limits file e
+          (more-by limits file (v u) (place_of mid) e (opening file 0) refl (it-reads file (lies-first false file 0 it.given (x ∷ []) lies))
+          (wrong file (omega (arith, lies.within, it-size, length-append it.given (x ∷ [])))));
     }
 
     -- the end isn't there
-    pub reads-unended : (e : JobFault) → Pulled g old mid → (IsOfBytes e → SeesMore g mid e) → ReadsJob g view (job_of limits) old (Err e)
+    pub reads-unended : (e : JobFault) → Pulled g old mid → (IsOfBytes e → SeesMore g mid e) → ReadsJob g view limits old (Err e)
     reads-unended faults.NoMemory pulled more = reads-none faults.NoMemory (λ of. of.0 refl)
     reads-unended faults.ReadFault pulled more = reads-none faults.ReadFault (λ of. of.1 refl)
     reads-unended (faults.Layout f) pulled more = reads-more (faults.Layout f) pulled (more (λ same. absurd cc, λ same. absurd cc))
@@ -132,21 +136,21 @@ module _ {D X U : Type 0} (g : Ghosts D) (limits : Limits) (view : X → JobFiel
 -- ---- what follows
 
 module _ {D X : Type 0} (g : Ghosts D) (limits : Limits) (view : X → JobFields) (feed : Feed D) where
-  pub exact-given : (r : Result X JobFault) → ReadsJob g view (job_of limits) feed r → (file : List ℕ) → StandsIn g feed file → Comes view (job_of limits file) r
+  pub exact-given : (r : Result X JobFault) → ReadsJob g view limits feed r → (file : List ℕ) → StandsIn g feed file → AnswersJob view limits file r
   exact-given r it file stands = it.reads file (it.lies file stands)
 
-  pub within-given : (r : Result X JobFault) → ReadsJob g view (job_of limits) feed r → IfOk r (λ x. IsWithinLimits limits (view x))
-  within-given (Ok x) it = within-read limits it.given (view x) it.bytes (it.reads it.given (lies-self it.ended it.given))
+  pub within-given : (r : Result X JobFault) → ReadsJob g view limits feed r → IfOk r (λ x. IsWithinLimits limits (view x))
+  within-given (Ok x) it = within-job limits it.given (view x) (it.reads it.given (lies-self it.ended it.given))
   within-given (Err e) it = tt
 
-  pub fits-given : (r : Result X JobFault) → limits.ranges ≤ 1024 → ReadsJob g view (job_of limits) feed r → IfOk r (λ x. FitsFields (view x))
+  pub fits-given : (r : Result X JobFault) → limits.ranges ≤ 1024 → ReadsJob g view limits feed r → IfOk r (λ x. FitsFields (view x))
   fits-given (Ok x) published it = job-fits limits it.given (view x) it.bytes published (it.reads it.given (lies-self it.ended it.given))
   fits-given (Err e) published it = tt
 
   -- some bytes are read so, the file's where files are told
-  pub given-of : (r : Result X JobFault) (told : Option Files) (name : List ℕ) → ReadsJob g view (job_of limits) feed r
+  pub given-of : (r : Result X JobFault) (told : Option Files) (name : List ℕ) → ReadsJob g view limits feed r
       → ((files : Files) → told ≡ Some files → (bytes : List ℕ) × (get files name ≡ Some bytes) × StandsIn g feed (take (2 ^ 64 - 1) bytes))
-      → (given : List ℕ) × IfSome told (λ files. get files name ≡ Some given) × Comes view (job_of limits given) r
+      → (given : List ℕ) × IfSome told (λ files. get files name ≡ Some given) × AnswersJob view limits given r
   given-of r None name it held = (it.given, tt, it.reads it.given (lies-self it.ended it.given))
   given-of r (Some files) name it held =
       let (bytes, there, stands) = held files refl in
@@ -160,8 +164,8 @@ stands-there g feed files bytes order told held =
     = ap (λ (t : Option Files). file_in t (name_of feed)) told ∙ ap (option_map (take (2 ^ 64 - 1))) held in
     record { told = is; window = windowed _ (name_of feed) (take (2 ^ 64 - 1) bytes) (place_of feed) _ is (omega (arith, feed.reach)) order }
 
--- where no read fails, a job comes of the bytes or memory is wanted
-pub comes-from : {D X A : Type 0} (g : Ghosts D) (old new : Feed D) (view : X → A) (read : Result A JobFault) (r : Result X JobFault)
-    → (ReadFailed g (name_of old) (depot_of old) (depot_of new) → ⊥) → Blames g old new r → Comes view read r → GivesUnless faults.NoMemory view r read
-comes-from g old new view read (Ok x) never blames comes = comes
-comes-from g old new view read (Err e) never blames comes = λ wants. comes (wants, λ same. never (blames.0 same))
+-- where no read fails, no fault is that of one
+pub never-blamed : {D X : Type 0} (g : Ghosts D) (old new : Feed D) (r : Result X JobFault)
+    → (ReadFailed g (name_of old) (depot_of old) (depot_of new) → ⊥) → Blames g old new r → IfErr r (λ e. e ≡ faults.ReadFault → ⊥)
+never-blamed g old new (Ok x) never blames = tt
+never-blamed g old new (Err e) never blames = λ same. never (blames.0 same)

@@ -1,13 +1,13 @@
 -- A job: what is read is the text of what its records hold, and the value is their meaning.
 use Rattle.std.proofs.Common.{◌≡◌, ℕ, zero, suc, ◌+◌, ◌-◌, ◌≤◌, ◌<◌, ◌^◌, Bool, true, false, List, [], ◌∷◌, ◌++◌, length, Option, Some, None, Result, Ok, Err}
-use Rattle.std.proofs.Common.{refl, sym, ap, subst, ◌∙◌, append_assoc, arith, inl, inr, IfOk, IfErr}
+use Rattle.std.proofs.Common.{refl, sym, ap, subst, ◌∙◌, append_assoc, arith, inl, inr}
 use Rattle.std.specs.Prelude.{All, codes, nat_lt, if◌then◌else◌}
 use Rattle.std.specs.Int.{w8, w64, to_be_bytes}
 use Rattle.std.specs.Str.{bytes_eq}
 use Rattle.std.proofs.lemmas.Bool.{cases_lt, ltb-false}
 use Rattle.std.proofs.lemmas.List.{take_all, get_or_past}
 use Rattle.std.proofs.lemmas.Slice.Eq.{bytes_eq-Decides}
-use Rattle.octets_core.specs.Reading.{GivesUnless, value_of, fault_at, end}
+use Rattle.octets_core.specs.Reading.{value_of, fault_at, end}
 use Rattle.octets_core.specs.declared.field.Field.TheVariants as fields
 use Rattle.octets_core.specs.declared.fault.Why.TheVariants as why
 use Rattle.octets_core.specs.declared.fault.LayoutFault.{LayoutFault}
@@ -122,10 +122,13 @@ read-spelled limits bytes f fits h =
       means = sym means;
     }
 
+pub read-fault : (limits : Limits) (bytes : List ℕ) (e : JobFault) → job_of limits bytes ≡ Err e → IsJobOf limits bytes (Err e)
+read-fault limits bytes e is = meant-err (job serials_of limits bytes 0) e is
+
 -- bytes are read as what they are
 pub read-found : (limits : Limits) (bytes : List ℕ) (r : Result JobFields JobFault) → IsBytes bytes → job_of limits bytes ≡ r → IsJobOf limits bytes r
 read-found limits bytes (Ok f) fits is = read-spelled limits bytes f fits is
-read-found limits bytes (Err e) fits is = meant-err (job serials_of limits bytes 0) e is
+read-found limits bytes (Err e) fits is = read-fault limits bytes e is
 
 pub found-read : (limits : Limits) (bytes : List ℕ) (r : Result JobFields JobFault) → IsJobOf limits bytes r → job_of limits bytes ≡ r
 found-read limits bytes (Ok f) is =
@@ -133,12 +136,3 @@ found-read limits bytes (Ok f) is =
     ∙ whole-read limits is.contents is.fits (subst (λ (g : JobFields). kept_in g.crls ≤ limits.serials) is.means is.few_serials)
     ∙ ap (λ (g : JobFields). Ok g) (sym is.means)
 found-read limits bytes (Err e) is = ap (λ r. meant (value_of r)) is
-
-module _ {X : Type 0} (view : X → JobFields) (limits : Limits) (bytes : List ℕ) (fits : IsBytes bytes) where
-  pub found-of : (r : Result X JobFault) → GivesUnless faults.NoMemory view r (job_of limits bytes) → IfOk r (λ x. IsJob limits bytes (view x))
-  found-of (Ok x) h = read-spelled limits bytes (view x) fits h
-  found-of (Err e) h = tt
-
-  pub fault-of : (r : Result X JobFault) → GivesUnless faults.NoMemory view r (job_of limits bytes) → IfErr r (λ e. (e ≡ faults.NoMemory → ⊥) → IsJobOf limits bytes (Err e))
-  fault-of (Ok x) h = tt
-  fault-of (Err e) h = λ other. read-found limits bytes (Err e) fits (h other)

@@ -6,7 +6,6 @@ use Rattle.std.specs.Prelude.{codes}
 use Rattle.std.proofs.lemmas.List.Elements.{All-nil, All-cons, All-head, All-tail}
 use Rattle.sha2.proofs.Facts256.{length-sha256}
 use Rattle.octets_core.specs.Numbers.{number, three_bytes}
-use Rattle.octets_core.specs.Reading.{GivesUnless}
 use Rattle.octets_core.proofs.Texts.{IsBytes}
 use Rattle.crl_core.specs.declared.crl.CrlFault.{CrlFault}
 use Rattle.crl_core.specs.Form.{CrlForm, crl_form}
@@ -19,14 +18,12 @@ use Rattle.log_core.proofs.DateLaws.{dated-fits}
 use Rattle.log_core.proofs.EntryLaws.{entry-taken}
 use Rattle.job_core.specs.declared.bounds.Limits.{Limits}
 use Rattle.job_core.specs.declared.fault.JobFault.{JobFault}
-use Rattle.job_core.specs.declared.fault.JobFault.TheVariants as faults
 use Rattle.job_core.specs.JobFields.{JobFields}
 use Rattle.job_core.specs.JobLayout.{CrlText, EntryText}
 use Rattle.job_core.specs.JobText.{JobContents, FitsEntry, range_record, crl_record, entry_record, spelling}
-use Rattle.job_core.specs.JobMeaning.{crl_meaning, entry_meaning, job_of}
+use Rattle.job_core.specs.JobMeaning.{crl_meaning, entry_meaning, IsJob}
 use Rattle.job_core.specs.Fitting.{EntryFieldsFit, FitsFields}
 use Rattle.job_core.proofs.Fitting.{fits-read}
-use Rattle.job_core.proofs.JobSpelled.{read-spelled}
 
 -- ---- the bytes of a text
 
@@ -115,18 +112,12 @@ spelled-entries j h =
     let entries : List ℕ = flat_map entry_record j.entries in
     back-bytes before entries (front-bytes (before ++ entries) (to_be_bytes w8 0) h)
 
-pub job-fits : (limits : Limits) (bytes : List ℕ) (f : JobFields) → IsBytes bytes → limits.ranges ≤ 1024 → job_of limits bytes ≡ Ok f → FitsFields f
-job-fits limits bytes f fits published h =
-    let is = read-spelled limits bytes f fits h in
+pub job-fits : (limits : Limits) (bytes : List ℕ) (f : JobFields) → IsBytes bytes → limits.ranges ≤ 1024 → IsJob limits bytes f → FitsFields f
+job-fits limits bytes f fits published is =
     let leaves : IsBytes (flat_map entry_record is.contents.entries) = spelled-entries is.contents (subst IsBytes is.text fits) in
-    fits-read limits bytes f fits published
+    fits-read limits bytes f published
     (subst (λ (g : JobFields). All (λ c. IfOk c.outcome CrlFieldsFit) g.crls) (sym is.means) (crls-fit is.contents.crls))
-    (subst (λ (g : JobFields). All (λ e. IfSome e EntryFieldsFit) g.entries) (sym is.means) (entries-fit is.contents.entries is.fits.entries leaves)) h
-
-pub fits-of : {X : Type 0} (view : X → JobFields) (limits : Limits) (bytes : List ℕ) (r : Result X JobFault) → IsBytes bytes → limits.ranges ≤ 1024
-    → GivesUnless faults.NoMemory view r (job_of limits bytes) → IfOk r (λ x. FitsFields (view x))
-fits-of view limits bytes (Ok x) fits published h = job-fits limits bytes (view x) fits published h
-fits-of view limits bytes (Err e) fits published h = tt
+    (subst (λ (g : JobFields). All (λ e. IfSome e EntryFieldsFit) g.entries) (sym is.means) (entries-fit is.contents.entries is.fits.entries leaves)) is
 
 pub crls-of : {X : Type 0} (view : X → JobFields) (r : Result X JobFault) → IfOk r (λ x. FitsFields (view x)) → IfOk r (λ x. All (λ c. IfOk c.outcome CrlFieldsFit) (view x).crls)
 crls-of view (Ok x) fits = fits.accepted

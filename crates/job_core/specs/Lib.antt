@@ -1,10 +1,10 @@
 pub mod JobFields
 pub mod JobLayout
-pub mod Pulling
 pub mod Offsets
 pub mod JobText
 pub mod Records
 pub mod JobMeaning
+pub mod Pulling
 pub mod Partial
 pub mod Fitting
 pub mod Reader

@@ -10,7 +10,10 @@ use Rattle.outside_core.specs.declared.feed.Feed.{Feed}
 use Rattle.outside_core.specs.Reads.{ReadFailed}
 use Rattle.outside_core.specs.Pulling.{Pulled}
 use Rattle.outside_core.specs.Standing.{depot_of, name_of, place_of, StandsIn}
+use Rattle.job_core.specs.JobFields.{JobFields}
 use Rattle.job_core.specs.JobLayout.{fielded}
+use Rattle.job_core.specs.JobMeaning.{IsJobOf}
+use Rattle.job_core.specs.declared.bounds.Limits.{Limits}
 use Rattle.job_core.specs.declared.fault.JobFault.{JobFault}
 use Rattle.job_core.specs.declared.fault.JobFault.TheVariants as faults
 
@@ -56,10 +59,10 @@ pub record Fetches {D X A : Type 0} (g : Ghosts D) (view : X → A) (layout : La
   pub lies : (file : List ℕ) → StandsIn g old file → Lies ended file (place_of old) given
   pub reads : (file : List ℕ) → Lies ended file (place_of old) given → Says view layout file (place_of old) (place_of new) result
 
--- the value, or a fault of the bytes
-abbrev pub Comes : {X A : Type 0} → (X → A) → Result A JobFault → Result X JobFault → Type 0
-Comes view read (Ok x) = read ≡ Ok (view x)
-Comes view read (Err e) = IsOfBytes e → read ≡ Err e
+-- The bytes are the job that is answered; or the fault is theirs, if it is one of bytes.
+abbrev pub AnswersJob : {X : Type 0} → (X → JobFields) → Limits → List ℕ → Result X JobFault → Type 0
+AnswersJob view limits bytes (Ok x) = IsJobOf limits bytes (Ok (view x))
+AnswersJob view limits bytes (Err e) = IsOfBytes e → IsJobOf limits bytes (Err e)
 
 -- a byte was seen where a file should end
 abbrev pub SeesMore : {D : Type 0} → Ghosts D → Feed D → JobFault → Type 0
@@ -72,12 +75,12 @@ abbrev pub IsGiven : {D : Type 0} → Ghosts D → Feed D → List ℕ → Type 
 IsGiven g feed bytes = IfSome (g.files (depot_of feed)) (λ files. get files (name_of feed) ≡ Some bytes)
 
 -- What a job was read from: some bytes were given, which where files are told lie at the front of the feed's file, and
--- of each file that begins with them the job is this result.
-pub record ReadsJob {D X A : Type 0} (g : Ghosts D) (view : X → A) (job : List ℕ → Result A JobFault) (old : Feed D)
+-- of each file that begins with them the result is the answer.
+pub record ReadsJob {D X : Type 0} (g : Ghosts D) (view : X → JobFields) (limits : Limits) (old : Feed D)
     (result : Result X JobFault) : Type 0 where
   pub given : List ℕ
   pub ended : Bool
   pub short : ended ≡ true → length given < 2 ^ 64 - 1
   pub bytes : OnOk result (AreBytes given)
   pub lies : (file : List ℕ) → StandsIn g old file → Lies ended file 0 given
-  pub reads : (file : List ℕ) → Lies ended file 0 given → Comes view (job file) result
+  pub reads : (file : List ℕ) → Lies ended file 0 given → AnswersJob view limits file result

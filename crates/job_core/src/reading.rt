@@ -3,17 +3,18 @@
 ghost use Rattle.std.specs.Prelude.{◌≡◌, ◌≢◌, ◌+◌, ◌≤◌, length, Ok, Err, IfOk, IfErr, OnOk};
 ghost use Rattle.job_core.specs.JobFields.{outcome_view, fields_of_job, AreWithin};
 ghost use Rattle.job_core.specs.JobLayout.{OneRange, OneCrl, OneEntry, kept};
+ghost use Rattle.job_core.specs.JobText.{crl_held, entry_held};
 ghost use Rattle.job_core.specs.Partial.{saying_one, TakesOne};
 ghost use Rattle.crl_core.specs.Outcome.{outcome};
 ghost use Rattle.log_core.specs.Entries.{entry_of};
-ghost use Rattle.octets_core.specs.Reading.{GivesUnless};
-ghost use Rattle.job_core.specs.JobMeaning.{IsJob, IsJobOf, job_of};
+ghost use Rattle.job_core.specs.Pulling.{AnswersJob};
 ghost use Rattle.job_core.specs.Fitting.{FitsFields, IsWithinLimits};
 ghost use Rattle.job_core.specs.Offsets.{offset_in_job};
 
 use crate::bounds::{Limits, What};
 use crate::fault::JobFault;
 use crate::meaning::{Job, JobCrl};
+use crate::raw::{RawCrl, RawEntry};
 use crate::reading_from::read_job_from;
 use crl_core::{Crl, CrlFault, read_crl};
 use ident_core::Range;
@@ -56,15 +57,13 @@ fn total_with(serials: u32, outcome: &Result<Crl, CrlFault>) -> usize
 pub fn put_crl(
     job: &mut Job,
     alloc: Global,
-    issuer: Key32,
-    bytes: &[u8],
+    crl: &RawCrl,
     serials: u32,
     limits: &Limits,
 ) -> Result<u32, JobFault>
-    ensures { TakesOne limits.now serials (OneCrl (record { issuer = issuer; bytes = bytes.now }))
-        (fields_of_job job.old) (fields_of_job job.new) result }
+    ensures { TakesOne limits.now serials (OneCrl (crl_held crl.now)) (fields_of_job job.old) (fields_of_job job.new) result }
 {
-    let outcome = outcome_in(alloc, bytes)?;
+    let outcome = outcome_in(alloc, &crl.bytes)?;
     let total = total_with(serials, &outcome);
     if total > limits.serials as usize {
         return Err(JobFault::TooMany {
@@ -72,7 +71,10 @@ pub fn put_crl(
             limit: limits.serials,
         });
     }
-    job.crls.push(JobCrl { issuer, outcome })?;
+    job.crls.push(JobCrl {
+        issuer: crl.issuer,
+        outcome,
+    })?;
     Ok(total as u32)
 }
 
@@ -86,23 +88,13 @@ pub fn put_range(job: &mut Job, range: Range) -> Result<(), JobFault>
 }
 
 /// Adds what an entry gives.
-pub fn put_entry(job: &mut Job, log: Key32, leaf: &[u8], extra: &[u8]) -> Result<(), JobFault>
-    ensures ok { OnOk result (fields_of_job job.new
-        ≡ saying_one (fields_of_job job.old) (OneEntry (record { log = log; leaf = leaf.now; extra = extra.now }))) }
+pub fn put_entry(job: &mut Job, entry: &RawEntry) -> Result<(), JobFault>
+    ensures ok { OnOk result (fields_of_job job.new ≡ saying_one (fields_of_job job.old) (OneEntry (entry_held entry.now))) }
     ensures wanted { IfErr result (λ e. e ≡ JobFault.NoMemory) }
 {
-    let entry = entry_from(log, leaf, extra);
-    job.entries.push(entry)?;
+    let meaning = entry_from(entry.log, &entry.leaf, &entry.extra);
+    job.entries.push(meaning)?;
     Ok(())
-}
-
-fn job_in(alloc: Global, bytes: &[u8], limits: &Limits) -> Result<Job, JobFault>
-    requires { AreWithin limits.now Limits.PUBLISHED }
-    ensures { GivesUnless JobFault.NoMemory fields_of_job result (job_of limits.now bytes.now) }
-{
-    let mut depot = SliceDepot::new(bytes);
-    let mut feed = Feed::new(&mut depot, "");
-    read_job_from(alloc, &mut feed, limits)
 }
 
 /// The job of the bytes, or the first fault in their order: a field that is short or fails its test, or one thing more
@@ -110,13 +102,14 @@ fn job_in(alloc: Global, bytes: &[u8], limits: &Limits) -> Result<Job, JobFault>
 /// The answer is never `ReadFault`.
 pub fn read_job(alloc: Global, bytes: &[u8], limits: &Limits) -> Result<Job, JobFault>
     requires { AreWithin limits.now Limits.PUBLISHED }
-    // The bytes are the text of what a job holds, each of them, and the answer is what it means.
-    ensures found { IfOk result (λ job. IsJob limits.now bytes.now (fields_of_job job)) }
-    ensures fault { IfErr result (λ e. e ≢ JobFault.NoMemory → IsJobOf limits.now bytes.now (Err e)) }
+    // They are the text of what a job holds, each of them, and the answer is what it means.
+    ensures exact { AnswersJob fields_of_job limits.now bytes.now result }
     ensures fits { IfOk result (λ job. FitsFields (fields_of_job job)) }
     ensures within { IfOk result (λ job. IsWithinLimits limits.now (fields_of_job job)) }
     ensures at { IfErr result (λ e. offset_in_job e ≤ length bytes.now) }
     ensures no_read { IfErr result (λ e. e ≢ JobFault.ReadFault) }
 {
-    job_in(alloc, bytes, limits)
+    let mut depot = SliceDepot::new(bytes);
+    let mut feed = Feed::new(&mut depot, "");
+    read_job_from(alloc, &mut feed, limits)
 }

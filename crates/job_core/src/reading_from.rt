@@ -1,17 +1,14 @@
 //! Jobs from a feed.
 
-ghost use Rattle.std.specs.Prelude.{◌≡◌, ◌≢◌, ◌+◌, ◌-◌, ◌≤◌, ◌<◌, ◌^◌, ℕ, List, map, All, Err, IfSome, IfOk, IfErr, OnOk};
+ghost use Rattle.std.specs.Prelude.{◌≡◌, ◌≢◌, ◌+◌, ◌-◌, ◌≤◌, ◌<◌, ◌^◌, ℕ, List, map, All, Err, IfSome, IfOk};
 ghost use Rattle.outside_core.specs.Filling.{IsInOrder};
 ghost use Rattle.outside_core.specs.Standing.{place_of, StandsIn};
 ghost use Rattle.crl_core.specs.Outcome.{CrlFieldsFit};
 ghost use Rattle.job_core.specs.JobFields.{crl_view, fields_of_job, AreWithin};
 ghost use Rattle.job_core.specs.Fitting.{EntryFieldsFit, FitsFields, IsWithinLimits};
-ghost use Rattle.job_core.specs.JobLayout.{OneEntry};
-ghost use Rattle.job_core.specs.JobText.{entry_held};
-ghost use Rattle.job_core.specs.JobMeaning.{job_of};
-ghost use Rattle.job_core.specs.Partial.{begun, records_saying, saying_one};
+ghost use Rattle.job_core.specs.Partial.{begun, records_saying};
 ghost use Rattle.outside_core.specs.Pulling.{Pulled};
-ghost use Rattle.job_core.specs.Pulling.{Blames, Comes, Fetches, IsGiven, ReadsJob};
+ghost use Rattle.job_core.specs.Pulling.{AnswersJob, Blames, Fetches, IsGiven, ReadsJob};
 
 use crate::bounds::Limits;
 use crate::fault::JobFault;
@@ -37,14 +34,6 @@ fn begun_job(alloc: Global, epoch: u64, moment: u64) -> Job
     }
 }
 
-/// Adds what an entry gives.
-fn put_entry_in(job: &mut Job, entry: &RawEntry) -> Result<(), JobFault>
-    ensures ok { OnOk result (fields_of_job job.new ≡ saying_one (fields_of_job job.old) (OneEntry (entry_held entry.now))) }
-    ensures wanted { IfErr result (λ e. e ≡ JobFault.NoMemory) }
-{
-    put_entry(job, entry.log, &entry.leaf, &entry.extra)
-}
-
 /// Adds what the records say, up to the one that ends the job. The entries are read one after another into `entry`.
 fn put_items<D: Depot>(
     job: &mut Job,
@@ -65,9 +54,9 @@ fn put_items<D: Depot>(
             Ok(None) => return Ok(()),
             Ok(Some(Item::Range(range))) => put_range(job, range)?,
             Ok(Some(Item::Crl(crl))) => {
-                serials = put_crl(job, alloc, crl.issuer, &crl.bytes, serials, limits)?;
+                serials = put_crl(job, alloc, &crl, serials, limits)?;
             }
-            Ok(Some(Item::Entry)) => put_entry_in(job, entry)?,
+            Ok(Some(Item::Entry)) => put_entry(job, entry)?,
             Err(fault) => return Err(fault),
         }
     }
@@ -82,7 +71,7 @@ fn job_from<D: Depot>(
     requires { place_of feed.old ≡ 0 }
     ensures pulled { Pulled D.Depot feed.old feed.new }
     ensures blames { Blames D.Depot feed.old feed.new result }
-    ensures reads { ReadsJob D.Depot fields_of_job (job_of limits.now) feed.old result }
+    ensures reads { ReadsJob D.Depot fields_of_job limits.now feed.old result }
 {
     let (epoch, moment) = fetch_opening(feed)?;
     let mut job = begun_job(alloc, epoch, moment);
@@ -103,10 +92,10 @@ pub fn read_job_from<D: Depot>(
     requires first { place_of feed.old ≡ 0 }
     ensures pulled { Pulled D.Depot feed.old feed.new }
     ensures blames { Blames D.Depot feed.old feed.new result }
-    ensures exact { (file : List ℕ) → StandsIn D.Depot feed.old file → Comes fields_of_job (job_of limits.now file) result }
+    ensures exact { (file : List ℕ) → StandsIn D.Depot feed.old file → AnswersJob fields_of_job limits.now file result }
     // Where no read failed, some bytes are read as the answer: where files are told, those that the feed's file holds.
     ensures given { IsInOrder D.Depot feed.old → result ≢ Err JobFault.ReadFault
-        → (given : List ℕ) × IsGiven D.Depot feed.old given × Comes fields_of_job (job_of limits.now given) result }
+        → (given : List ℕ) × IsGiven D.Depot feed.old given × AnswersJob fields_of_job limits.now given result }
     ensures crls { IfOk result (λ job. All (λ c. IfOk c.outcome CrlFieldsFit) (map crl_view job.crls.items)) }
     ensures entries { IfOk result (λ job. All (λ e. IfSome e EntryFieldsFit) job.entries.items) }
     ensures fits { IfOk result (λ job. FitsFields (fields_of_job job)) }

@@ -1,4 +1,4 @@
-use Rattle.std.proofs.Common.{◌≡◌, ℕ, List, Option, Some, ap, subst, ◌∙◌, refl, sym, arith}
+use Rattle.std.proofs.Common.{◌≡◌, Option, Some, ap, subst, ◌∙◌, refl, arith}
 use Rattle.std.specs.Prelude.{IfSome}
 use Rattle.std.proofs.lemmas.Result.{err_from_is_err_and}
 use Rattle.outside_core.specs.Standing.{place_of}
@@ -8,7 +8,7 @@ use Rattle.job_core.specs.declared.raw.RawEntry.{RawEntry}
 use Rattle.job_core.specs.declared.records.Item.{Item as Taken}
 use Rattle.job_core.specs.JobFields.{fields_of_job}
 use Rattle.job_core.specs.JobLayout.{Item, OneRange, OneCrl, OneEntry, with_item}
-use Rattle.job_core.specs.JobText.{entry_held}
+use Rattle.job_core.specs.JobText.{crl_held, entry_held}
 use Rattle.job_core.specs.Partial.{held_in}
 use Rattle.job_core.specs.Records.{item_of_record, some_record}
 use Rattle.outside_core.proofs.Pulling.{pulled-none, pulled-then}
@@ -74,14 +74,14 @@ records-preserved-in-Ok-Some-Crl g c =
     let inv = c.records.invariant in
     let e = c.in-Ok-Some-Crl.ensures.exact in
     let is = c.in-Ok-Some-Crl.field-0-is ∙ ap Some c.in-Ok-Some-Crl.field-0-0-is in
-    let x : Item = OneCrl (record { issuer = c.in-Ok-Some-Crl.crl.issuer; bytes = c.deref.result.now }) in
+    let x : Item = OneCrl (crl_held c.in-Ok-Some-Crl.crl) in
     let holds = subst (Behind c.next_item_from.new.into c.records.numbers c.next_item_from.new.numbers) is c.in-Ok-Some-Crl.ensures.behind in
     record {
       pulled = pulled-then g.D.Depot c.args.feed.now c.records.feed c.next_item_from.new.feed inv.pulled e.pulled;
       none = e.blames ∙ inv.none;
       gathers = gathers-more g.D.Depot c.args.limits.now (fields_of_job c.args.job.now) (fields_of_job c.records.job) (held_in c.records.numbers) c.records.serials c.args.feed.now c.records.feed
           c.next_item_from.new.feed inv.gathers inv.pulled _ _ e x (held_in c.next_item_from.new.numbers) _ _
-          (ap (some_record c.next_item_from.new.into) is ∙ ap (λ (b : List ℕ). Some (OneCrl (record { issuer = c.in-Ok-Some-Crl.crl.issuer; bytes = b }))) (sym c.deref.ensures.value))
+          (ap (some_record c.next_item_from.new.into) is)
           c.in_ok-serials-in-Ok-Some-Crl.ensures.0 holds c.in_ok-serials-in-Ok-Some-Crl.ensures.1 c.in_ok-serials-in-Ok-Some-Crl.ensures.2;
       near = near-more c.records.numbers c.next_item_from.new.numbers x (place_of c.args.feed.now) (place_of c.records.feed)
           (place_of c.next_item_from.new.feed) holds inv.near (omega (arith, c.next_item_from.ensures.near));
@@ -103,7 +103,7 @@ records-preserved g c =
       none = e.blames ∙ inv.none;
       gathers = gathers-more g.D.Depot c.args.limits.now (fields_of_job c.args.job.now) (fields_of_job c.records.job) (held_in c.records.numbers) c.records.serials c.args.feed.now c.records.feed
           c.next_item_from.new.feed inv.gathers inv.pulled _ _ e x (held_in c.next_item_from.new.numbers) _ _ (ap (some_record c.next_item_from.new.into) is)
-          c.in_ok-put_entry_in-in-Ok-Some-Entry.ensures.ok holds refl inv.few;
+          c.in_ok-put_entry-in-Ok-Some-Entry.ensures.ok holds refl inv.few;
       near = near-more c.records.numbers c.next_item_from.new.numbers x (place_of c.args.feed.now) (place_of c.records.feed)
           (place_of c.next_item_from.new.feed) holds inv.near (omega (arith, c.next_item_from.ensures.near));
       few = inv.few;
@@ -121,8 +121,8 @@ returns-in_err-serials-in-Ok-Some-Crl g c =
     let is = c.in-Ok-Some-Crl.field-0-is ∙ ap Some c.in-Ok-Some-Crl.field-0-0-is in
     rw (p.1, p.2) (record {
       exact = gathered-refused g.D.Depot c.args.limits.now (fields_of_job c.args.job.now) (fields_of_job c.records.job) (held_in c.records.numbers) c.records.serials c.args.feed.now c.records.feed
-          c.next_item_from.new.feed inv.gathers inv.pulled _ _ e _ (OneCrl (record { issuer = c.in-Ok-Some-Crl.crl.issuer; bytes = c.deref.result.now })) _
-          (ap (some_record c.next_item_from.new.into) is ∙ ap (λ (b : List ℕ). Some (OneCrl (record { issuer = c.in-Ok-Some-Crl.crl.issuer; bytes = b }))) (sym c.deref.ensures.value))
+          c.next_item_from.new.feed inv.gathers inv.pulled _ _ e _ (OneCrl (crl_held c.in-Ok-Some-Crl.crl)) _
+          (ap (some_record c.next_item_from.new.into) is)
           inv.none
           (λ same. let wants : c.in_err-serials-in-Ok-Some-Crl.field-0.0 ≡ faults.NoMemory → ⊥ = λ other. absurd cc in let over = (c.in_err-serials-in-Ok-Some-Crl.ensures wants).0 in absurd cc)
           c.in_err-serials-in-Ok-Some-Crl.ensures;
@@ -146,9 +146,9 @@ returns-in_err-put_range-in-Ok-Some-Range g c =
           c.numbers_facts.ensures.1 c.numbers_facts.ensures.2 inv.near (omega (arith, c.next_item_from.ensures.near));
     })
 
-pub returns-in_err-put_entry_in-in-Ok-Some-Entry : goal.returns-in_err-put_entry_in-in-Ok-Some-Entry
-returns-in_err-put_entry_in-in-Ok-Some-Entry g c =
-    let r = c.from_residual-in_err-put_entry_in-in-Ok-Some-Entry in
+pub returns-in_err-put_entry-in-Ok-Some-Entry : goal.returns-in_err-put_entry-in-Ok-Some-Entry
+returns-in_err-put_entry-in-Ok-Some-Entry g c =
+    let r = c.from_residual-in_err-put_entry-in-Ok-Some-Entry in
     let p = err_from_is_err_and r.result r.ensures.1 in
     let inv = c.records.invariant in
     let e = c.in-Ok-Some-Entry.ensures.exact in
@@ -156,8 +156,8 @@ returns-in_err-put_entry_in-in-Ok-Some-Entry g c =
     rw (p.1, p.2) (record {
       exact = gathered-refused g.D.Depot c.args.limits.now (fields_of_job c.args.job.now) (fields_of_job c.records.job) (held_in c.records.numbers) c.records.serials c.args.feed.now c.records.feed
           c.next_item_from.new.feed inv.gathers inv.pulled _ _ e _ (OneEntry (entry_held c.next_item_from.new.into)) _ (ap (some_record c.next_item_from.new.into) is) inv.none
-          (λ same. let none = c.in_err-put_entry_in-in-Ok-Some-Entry.ensures.wanted in absurd cc)
-          (λ other. absurd (other c.in_err-put_entry_in-in-Ok-Some-Entry.ensures.wanted));
+          (λ same. let none = c.in_err-put_entry-in-Ok-Some-Entry.ensures.wanted in absurd cc)
+          (λ other. absurd (other c.in_err-put_entry-in-Ok-Some-Entry.ensures.wanted));
       near = near-all c.records.numbers (place_of c.args.feed.now) (place_of c.records.feed) (place_of c.next_item_from.new.feed) c.numbers_facts.ensures.0
           c.numbers_facts.ensures.1 c.numbers_facts.ensures.2 inv.near (omega (arith, c.next_item_from.ensures.near));
     })
