@@ -18,7 +18,7 @@ use Rattle.part_text.specs.PartLayout.{part}
 use Rattle.part_text.specs.Fitting.{Fits}
 use Rattle.job_core.specs.declared.bounds.TheConstants.Limits.{PUBLISHED}
 use Rattle.job_core.specs.JobFields.{JobFields}
-use Rattle.job_core.specs.JobLayout.{job_of}
+use Rattle.job_core.specs.JobMeaning.{job_of}
 use Rattle.job_core.specs.Fitting.{FitsFields, FitsPublishing, IsWithinLimits}
 use Rattle.ledger_core.specs.LedgerFields.{LedgerFields}
 use Rattle.ledger_core.specs.LedgerReading.{ledger_of_bytes}

@@ -19,9 +19,9 @@ use Rattle.job_core.specs.declared.bounds.Limits.{Limits}
 use Rattle.job_core.specs.declared.bounds.TheConstants.Limits.{PUBLISHED}
 use Rattle.job_core.specs.declared.fault.JobFault.{JobFault}
 use Rattle.job_core.specs.JobFields.{JobFields}
-use Rattle.job_core.specs.JobLayout.{CrlText, EntryText, job_of}
+use Rattle.job_core.specs.JobLayout.{CrlText, EntryText}
 use Rattle.job_core.specs.JobText.{JobContents, FitsJob, spelling}
-use Rattle.job_core.specs.JobMeaning.{reading_of}
+use Rattle.job_core.specs.JobMeaning.{reading_of, IsJob, job_of}
 use Rattle.gather_core.specs.Raw.{raw_job, piece_limits, with_entries}
 use Rattle.place_core.specs.declared.place.By.{By}
 use Rattle.place_core.specs.Cuts.{Cut, is_kept, everything, at_place}
@@ -65,7 +65,7 @@ pub record Laws : Type 0 where
   pub text : (limits : Limits) (bytes : List ℕ) (j : JobContents) → ((i : ℕ) → get_or bytes i 0 < 256) → raw_job limits bytes ≡ Ok j
       → (bytes ≡ spelling j) × FitsJob limits j
   pub cut : (cut : Cut) (limits : Limits) (bytes : List ℕ) (j : JobContents) (job : JobFields) → ((i : ℕ) → get_or bytes i 0 < 256)
-      → raw_job limits bytes ≡ Ok j → job_of limits bytes ≡ Ok job → job_of limits (spelling (cut_contents cut j)) ≡ Ok (cut_job cut job)
+      → raw_job limits bytes ≡ Ok j → job_of limits bytes ≡ Ok job → IsJob limits (spelling (cut_contents cut j)) (cut_job cut job)
   pub merged : (head : JobContents) (pieces : List JobContents) (job : JobContents) → IsMerged head pieces job → FitsJob PUBLISHED head
       → All (FitsJob piece_limits) pieces → length job.entries ≤ PUBLISHED.entries → job_of PUBLISHED (spelling job) ≡ reading_of PUBLISHED job
   pub beside : (cut : Cut) (c : Course) (h : History) (parts : List SealedFields) → course_of h ≡ cut_course cut c → IsHistory h parts

@@ -13,7 +13,7 @@ use Rattle.part_text.specs.SealedFields.{SealedFields}
 use Rattle.job_core.specs.declared.bounds.TheConstants.Limits.{PUBLISHED}
 use Rattle.job_core.specs.JobFields.{JobFields}
 use Rattle.job_core.specs.Fitting.{FitsFields}
-use Rattle.job_core.specs.JobLayout.{job_of}
+use Rattle.job_core.specs.JobMeaning.{job_of}
 use Rattle.card_core.specs.declared.verdict.Verdict.{Verdict}
 use Rattle.publication_core.specs.Histories.{chain, IsHistory}
 use Rattle.word_core.specs.declared.command.Command.{Command}

@@ -16,7 +16,7 @@ use Rattle.sct_core.specs.Grammar.{HasSightings}
 use Rattle.job_core.specs.declared.bounds.TheConstants.Limits as limits
 use Rattle.job_core.specs.JobFields.{JobFields}
 use Rattle.job_core.specs.Fitting.{FitsFields}
-use Rattle.job_core.specs.JobLayout.{job_of}
+use Rattle.job_core.specs.JobMeaning.{job_of}
 use Rattle.ident_core.specs.Among.{Among}
 use Rattle.universe_core.specs.Formats.{in_format}
 use Rattle.universe_core.specs.Jobs.{Entry, is_enrolled, facts_of}

@@ -1,5 +1,5 @@
 -- What a call finds and leaves where a history is cut into places.
-use Rattle.std.specs.Prelude.{◌≡◌, ◌≤◌, ◌⊎◌, true, ℕ, List, map, length, Ok}
+use Rattle.std.specs.Prelude.{◌≡◌, ◌≤◌, ◌⊎◌, true, ℕ, List, map, length}
 use Rattle.std.specs.List.{AllZip}
 use Rattle.ident_core.specs.declared.identity.Identity.{Identity}
 use Rattle.ident_core.specs.declared.range.Sighting.{Sighting}
@@ -9,9 +9,8 @@ use Rattle.card_core.specs.Verdict.{verdict}
 use Rattle.part_text.specs.SealedFields.{SealedFields}
 use Rattle.job_core.specs.declared.bounds.TheConstants.Limits as limits
 use Rattle.job_core.specs.JobFields.{JobFields}
-use Rattle.job_core.specs.JobLayout.{job_of}
 use Rattle.job_core.specs.JobText.{JobContents, spelling}
-use Rattle.job_core.specs.JobMeaning.{reading_of}
+use Rattle.job_core.specs.JobMeaning.{reading_of, IsJob, job_of}
 use Rattle.universe_core.specs.Formats.{JobIn}
 use Rattle.universe_core.specs.History.{seen, sightings}
 use Rattle.history_core.specs.Truth.{truth}
@@ -39,9 +38,9 @@ HoldOctets asked files = AreOctets (held_by asked files)
 abbrev pub AsksToCut : Command → JobCut → JobFields → Files → Type 0
 AsksToCut asked c job files = (asked ≡ commands.Cut c) × HoldOctets asked files × HoldsJob files c.job job
 
--- after the call, the file of this name holds bytes that are read as this job
+-- after the call, the file of this name holds the text of this job
 abbrev pub LeavesJob : Call → List ℕ → JobFields → Type 0
-LeavesJob call name job = (bytes : List ℕ) × Holds call name bytes × (job_of limits.PUBLISHED bytes ≡ Ok job)
+LeavesJob call name job = (bytes : List ℕ) × Holds call name bytes × IsJob limits.PUBLISHED bytes job
 
 -- The job is put together of the head and the pieces that the files held. JOB holds its text, which is read as what it
 -- means, or its CRLs bring too many serials.

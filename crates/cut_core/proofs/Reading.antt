@@ -1,7 +1,7 @@
 -- Raw jobs are read as what they mean, also once they are cut or put together.
 use Rattle.std.specs.Prelude.{All, nat_le, if◌then◌else◌}
 use Rattle.std.proofs.Common.{◌≡◌, ℕ, ◌≤◌, Bool, true, false, List, [], ◌∷◌, length, Result, Ok, Err, refl, sym, ap, ◌∙◌, subst, arith}
-use Rattle.std.proofs.lemmas.Bool.{le-leb, leb-true}
+use Rattle.std.proofs.lemmas.Bool.{leb-true}
 use Rattle.std.proofs.lemmas.List.Elements.{All-nil, All-head, All-tail, All-append, All-filter}
 use Rattle.octets_core.specs.Reading.{value_of}
 use Rattle.octets_core.proofs.Texts.{IsBytes}
@@ -13,7 +13,7 @@ use Rattle.job_core.specs.declared.fault.JobFault.TheVariants as faults
 use Rattle.job_core.specs.JobFields.{JobFields}
 use Rattle.job_core.specs.JobLayout.{CrlText, EntryText, JobTexts, job, entry_meaning}
 use Rattle.job_core.specs.JobText.{JobContents, FitsCrl, FitsEntry, FitsJob, spelling}
-use Rattle.job_core.specs.JobMeaning.{meaning_of, kept_in, reading_of, job_of}
+use Rattle.job_core.specs.JobMeaning.{meaning_of, kept_in, reading_of, IsJob, job_of}
 use Rattle.job_core.specs.Reader.{no_serials}
 use Rattle.job_core.proofs.JobReads.{spelled-read}
 use Rattle.job_core.proofs.JobSpelled.{job-leaves}
@@ -56,20 +56,21 @@ reading_ok : (b : Bool) (e : JobFault) (m f : JobFields) → (if b then Ok m els
 reading_ok true e m f is = (refl, let h : ◌≡◌ {A = Result JobFields JobFault} (Ok m) (Ok f) = is in cc)
 reading_ok false e m f is = absurd (let h : ◌≡◌ {A = Result JobFields JobFault} (Err e) (Ok f) = is in cc)
 
--- the text of what is kept of a job is read as the job, cut
+-- the text of what is kept of a job is the job, cut
 pub cut_read : (cut : Cut) (limits : Limits) (bytes : List ℕ) (j : JobContents) (f : JobFields) → IsBytes bytes → raw_job limits bytes ≡ Ok j
-    → job_of limits bytes ≡ Ok f → job_of limits (spelling (cut_contents cut j)) ≡ Ok (cut_job cut f)
+    → job_of limits bytes ≡ Ok f → IsJob limits (spelling (cut_contents cut j)) (cut_job cut f)
 cut_read cut limits bytes j f octets raw is =
     let text = raw_text limits bytes octets j raw in
     let read : reading_of limits j ≡ Ok f = sym (spelled-read limits j text.1) ∙ ap (job_of limits) (sym text.0) ∙ is in
     let means = reading_ok (nat_le (kept_in (meaning_of j).crls) limits.serials) (faults.TooMany what.Serials limits.serials) (meaning_of j) f read in
     let all : kept_in (meaning_of j).crls ≤ limits.serials = leb-true (kept_in (meaning_of j).crls) limits.serials means.0 in
-    let fewer : kept_in (cut_job cut (meaning_of j)).crls ≤ kept_in (meaning_of j).crls = few_serials cut (meaning_of j).crls in
-    let same : kept_in (meaning_of (cut_contents cut j)).crls ≡ kept_in (cut_job cut (meaning_of j)).crls = ap (λ (g : JobFields). kept_in g.crls) (meaning_cut cut j) in
-    let under : kept_in (meaning_of (cut_contents cut j)).crls ≤ limits.serials = omega (arith, all, fewer, same) in
-    spelled-read limits (cut_contents cut j) (text_fits cut limits j text.1)
-    ∙ rw (le-leb (kept_in (meaning_of (cut_contents cut j)).crls) limits.serials under)
-    (ap (λ (g : JobFields). Ok g) (meaning_cut cut j ∙ ap (cut_job cut) means.1))
+    record {
+      contents = cut_contents cut j;
+      text = refl;
+      fits = text_fits cut limits j text.1;
+      few_serials = subst (λ (g : JobFields). kept_in (cut_job cut g).crls ≤ limits.serials) means.1 (omega (arith, all, few_serials cut (meaning_of j).crls));
+      means = sym (meaning_cut cut j ∙ ap (cut_job cut) means.1);
+    }
 
 -- ---- put together
 

@@ -6,7 +6,7 @@ ghost use Rattle.job_core.specs.declared.bounds.Limits.{Limits};
 ghost use Rattle.job_core.specs.declared.bounds.TheConstants.Limits.{PUBLISHED};
 ghost use Rattle.job_core.specs.JobFields.{JobFields};
 ghost use Rattle.job_core.specs.JobText.{JobContents, FitsJob, spelling};
-ghost use Rattle.job_core.specs.JobMeaning.{meaning_of, reading_of, job_of};
+ghost use Rattle.job_core.specs.JobMeaning.{meaning_of, reading_of, IsJob, job_of};
 ghost use Rattle.place_core.specs.Cuts.{Cut};
 ghost use Rattle.piece_core.specs.Cuts.{cut_contents};
 ghost use Rattle.cut_core.specs.Cutting.{cut_job};
@@ -26,7 +26,7 @@ pub fn texts_are_cut()
         → All (λ p. p.epoch ≡ job.epoch) pieces }
 {}
 
-/// The bytes of a raw job are its text, within the limits (`text`). What is cut of it is read as the job that it is
+/// The bytes of a raw job are its text, within the limits (`text`). The text of what is cut of it is the job that it is
 /// read as, cut (`cut`). What is put together of a head and pieces is read as its meaning, which may have too many
 /// serials (`merged`).
 pub fn texts_are_read()
@@ -34,7 +34,7 @@ pub fn texts_are_read()
         → raw_job limits bytes ≡ Ok j → (bytes ≡ spelling j) × FitsJob limits j }
     ensures cut { (cut : Cut) (limits : Limits) (bytes : List ℕ) (j : JobContents) (job : JobFields)
         → ((i : ℕ) → get_or bytes i 0 < 256) → raw_job limits bytes ≡ Ok j → job_of limits bytes ≡ Ok job
-        → job_of limits (spelling (cut_contents cut j)) ≡ Ok (cut_job cut job) }
+        → IsJob limits (spelling (cut_contents cut j)) (cut_job cut job) }
     ensures merged { (head : JobContents) (pieces : List JobContents) (job : JobContents) → IsMerged head pieces job
         → FitsJob PUBLISHED head → All (FitsJob piece_limits) pieces → length job.entries ≤ PUBLISHED.entries
         → job_of PUBLISHED (spelling job) ≡ reading_of PUBLISHED job }
