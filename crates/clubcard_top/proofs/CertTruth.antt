@@ -19,7 +19,7 @@ use Rattle.ident_core.specs.Among.{Among}
 use Rattle.ident_core.proofs.Elements.{Among-filter, Among-in_filter, Among-map, found, any_at, bool_same}
 use Rattle.universe_core.specs.History.{seen, sightings}
 use Rattle.card_core.specs.Verdict.{by_covering, verdict}
-use Rattle.publication_core.specs.Histories.{History, IsHistory, releases_of}
+use Rattle.publication_core.specs.Histories.{History, IsHistory, parts_of, releases_of}
 use Rattle.publication_core.specs.Truth.{truth}
 use Rattle.input_core.specs.Certificates.{certificate_in, issuer_in}
 
@@ -74,32 +74,32 @@ module _ (parts : List PartFields) (ss : List Sighting) (a : Sighting) (here : A
 -- The verdict of the parts of a history is its truth, asked with accepted sightings.
 abbrev pub Truths : Type 0
 Truths =
-    (h : History) (parts : List SealedFields) (x : Identity) (ss : List Sighting) → IsHistory h parts → 1 ≤ length ss
-    → ((s : Sighting) → Among ss s → Among (sightings x (seen (releases_of h parts))) s) → verdict (map (λ s. s.part) parts) x ss ≡ truth (releases_of h parts) x
+    (h : History) (x : Identity) (ss : List Sighting) → IsHistory h → 1 ≤ length ss
+    → ((s : Sighting) → Among ss s → Among (sightings x (seen (releases_of h))) s) → verdict (map (λ s. s.part) (parts_of h)) x ss ≡ truth (releases_of h) x
 
-module _ (h : History) (parts : List SealedFields) (is : IsHistory h parts) (x : Identity) (ss : List Sighting)
-    (covered : (s : Sighting) (t : SealedFields) → Among ss s → Among parts t → IsTrue (covers t.part.head.ranges s) → Among (sightings x (seen (releases_of h parts))) s)
-    (a : Sighting) (here : Among ss a) (accepted : Among (sightings x (seen (releases_of h parts))) a) where
+module _ (h : History) (is : IsHistory h) (x : Identity) (ss : List Sighting)
+    (covered : (s : Sighting) (t : SealedFields) → Among ss s → Among (parts_of h) t → IsTrue (covers t.part.head.ranges s) → Among (sightings x (seen (releases_of h))) s)
+    (a : Sighting) (here : Among ss a) (accepted : Among (sightings x (seen (releases_of h))) a) where
   abbrev all_parts : List PartFields
-  all_parts = map (λ (s : SealedFields). s.part) parts
+  all_parts = map (λ (s : SealedFields). s.part) (parts_of h)
 
   -- a sighting that is kept is of an accepted entry
-  kept_accepted : (s : Sighting) → Among (kept all_parts ss a here) s → Among (sightings x (seen (releases_of h parts))) s
-  kept_accepted s (inl same) = subst (λ (t : Sighting). Among (sightings x (seen (releases_of h parts))) t) same accepted
+  kept_accepted : (s : Sighting) → Among (kept all_parts ss a here) s → Among (sightings x (seen (releases_of h))) s
+  kept_accepted s (inl same) = subst (λ (t : Sighting). Among (sightings x (seen (releases_of h))) t) same accepted
   kept_accepted s (inr k) =
       let f = Among-filter (is_covered all_parts ss a here) ss s k in
       let part = found (λ (q : PartFields). covers q.head.ranges s) all_parts f.1 in
-      let sealed = Among-map (λ (t : SealedFields). t.part) parts part.0 part.1 in
+      let sealed = Among-map (λ (t : SealedFields). t.part) (parts_of h) part.0 part.1 in
       covered s sealed.0 f.0 sealed.1 (ap (λ (q : PartFields). covers q.head.ranges s) sealed.2 ∙ part.2)
 
-  truth_kept : Truths → verdict all_parts x ss ≡ truth (releases_of h parts) x
+  truth_kept : Truths → verdict all_parts x ss ≡ truth (releases_of h) x
   truth_kept truths =
       let some : 1 ≤ length (a ∷ filter (is_covered all_parts ss a here) ss) = omega arith in
-      verdict_kept all_parts ss a here x ∙ truths h parts x (kept all_parts ss a here) is some kept_accepted
+      verdict_kept all_parts ss a here x ∙ truths h x (kept all_parts ss a here) is some kept_accepted
 
 -- Asked with one accepted sighting, and no other that a part covers and that isn't accepted, the parts tell the truth.
-pub truth_of_covered : Truths → (h : History) (parts : List SealedFields) (x : Identity) (ss : List Sighting) → IsHistory h parts
-    → (s : Sighting) × Among ss s × Among (sightings x (seen (releases_of h parts))) s
-    → ((s : Sighting) (t : SealedFields) → Among ss s → Among parts t → IsTrue (covers t.part.head.ranges s) → Among (sightings x (seen (releases_of h parts))) s)
-    → verdict (map (λ s. s.part) parts) x ss ≡ truth (releases_of h parts) x
-truth_of_covered truths h parts x ss is (a, here, accepted) covered = truth_kept h parts is x ss covered a here accepted truths
+pub truth_of_covered : Truths → (h : History) (x : Identity) (ss : List Sighting) → IsHistory h
+    → (s : Sighting) × Among ss s × Among (sightings x (seen (releases_of h))) s
+    → ((s : Sighting) (t : SealedFields) → Among ss s → Among (parts_of h) t → IsTrue (covers t.part.head.ranges s) → Among (sightings x (seen (releases_of h))) s)
+    → verdict (map (λ s. s.part) (parts_of h)) x ss ≡ truth (releases_of h) x
+truth_of_covered truths h x ss is (a, here, accepted) covered = truth_kept h is x ss covered a here accepted truths

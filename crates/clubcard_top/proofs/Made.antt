@@ -37,7 +37,7 @@ use Rattle.store_core.specs.StoreLayout.{store, store_text}
 use Rattle.card_core.specs.Verdict.{verdict}
 use Rattle.publication_core.specs.declared.fault.PublishFault.{PublishFault}
 use Rattle.publication_core.specs.Formats.{current}
-use Rattle.publication_core.specs.Histories.{IsAdmissible, History, of_jobs, members, with_job, IsHistory, releases_of, part_bytes, ledger_bytes, store_bytes}
+use Rattle.publication_core.specs.Histories.{IsAdmissible, History, of_jobs, members, with_job, IsHistory, parts_of, releases_of, part_bytes, ledger_bytes, store_bytes}
 use Rattle.publication_core.specs.Histories.{old_ledger_bytes, IsUndated}
 use Rattle.publication_core.specs.Publishing.{PublicationFields, Publishes}
 use Rattle.publication_core.specs.Truth.{truth}
@@ -65,31 +65,30 @@ use Rattle.command_core.proofs.Unique.{Publishing}
 
 -- The ledger of a history is read back, in either version.
 pub record ReadBack : Type 0 where
-  pub value : (h : History) (parts : List SealedFields) → IsHistory h parts → 1 ≤ members h → ledger_of_bytes (ledger_bytes h parts) ≡ Ok (ledger_of (releases_of h parts))
-  pub old_value : (h : History) (parts : List SealedFields) → IsHistory h parts → 1 ≤ members h → IsUndated h
-      → ledger_of_bytes (old_ledger_bytes h parts) ≡ Ok (ledger_of (releases_of h parts))
+  pub value : (h : History) → IsHistory h → 1 ≤ members h → ledger_of_bytes (ledger_bytes h) ≡ Ok (ledger_of (releases_of h))
+  pub old_value : (h : History) → IsHistory h → 1 ≤ members h → IsUndated h
+      → ledger_of_bytes (old_ledger_bytes h) ≡ Ok (ledger_of (releases_of h))
 
 -- What the layers promise of histories.
 pub record Layers : Type 0 where
   pub publishing : Publishing
-  pub none : ledger_of (releases_of (of_jobs []) []) ≡ no_ledger
-  pub admissible : (h : History) (parts : List SealedFields) (job : JobFields) (p : PublicationFields) → IsHistory h parts → FitsPublishing job → IsWithinLimits PUBLISHED job
-      → Publishes (ledger_of (releases_of h parts)) job (Ok p) → IsAdmissible (releases_of h parts) (in_format current job)
-  pub next : (h : History) (parts : List SealedFields) (job : JobFields) (p : PublicationFields) → IsHistory h parts → FitsPublishing job → IsWithinLimits PUBLISHED job
-      → Publishes (ledger_of (releases_of h parts)) job (Ok p) → IsHistory (with_job h (in_format current job)) (parts ++ p.sealed ∷ [])
-  pub ledger : (h : History) (parts : List SealedFields) (job : JobFields) (p : PublicationFields) → IsHistory h parts
-      → Publishes (ledger_of (releases_of h parts)) job (Ok p) → p.ledger ≡ ledger_of (releases_of (with_job h (in_format current job)) (parts ++ p.sealed ∷ []))
-  pub numbers : (h : History) (parts : List SealedFields) (job : JobFields) (p : PublicationFields) → IsHistory h parts
-      → Publishes (ledger_of (releases_of h parts)) job (Ok p) → p.counts ≡ counts (past_of (releases_of h parts)) (facts_of job)
-  pub place : (h : History) (parts : List SealedFields) (job : JobFields) (p : PublicationFields) → IsHistory h parts
-      → Publishes (ledger_of (releases_of h parts)) job (Ok p) → p.place ≡ members h
+  pub none : ledger_of (releases_of (of_jobs [])) ≡ no_ledger
+  pub admissible : (h : History) (job : JobFields) (p : PublicationFields) → IsHistory h → FitsPublishing job → IsWithinLimits PUBLISHED job
+      → Publishes (ledger_of (releases_of h)) job (Ok p) → IsAdmissible (releases_of h) (in_format current job)
+  pub next : (h : History) (job : JobFields) (p : PublicationFields) → IsHistory h → FitsPublishing job → IsWithinLimits PUBLISHED job
+      → Publishes (ledger_of (releases_of h)) job (Ok p) → IsHistory (with_job h (in_format current job) p.sealed)
+  pub ledger : (h : History) (job : JobFields) (p : PublicationFields) → IsHistory h
+      → Publishes (ledger_of (releases_of h)) job (Ok p) → p.ledger ≡ ledger_of (releases_of (with_job h (in_format current job) p.sealed))
+  pub numbers : (h : History) (job : JobFields) (p : PublicationFields) → IsHistory h
+      → Publishes (ledger_of (releases_of h)) job (Ok p) → p.counts ≡ counts (past_of (releases_of h)) (facts_of job)
+  pub place : (h : History) (job : JobFields) (p : PublicationFields) → IsHistory h
+      → Publishes (ledger_of (releases_of h)) job (Ok p) → p.place ≡ members h
   pub ledgers : ReadBack
-  pub chain : (h : History) (parts : List SealedFields) → IsHistory h parts → IsChain parts
-  pub many : (h : History) (parts : List SealedFields) → IsHistory h parts → length parts ≡ members h
-  pub few : (h : History) (parts : List SealedFields) → IsHistory h parts → length parts ≤ 64
-  pub texts : (h : History) (parts : List SealedFields) → IsHistory h parts → All Fits parts
-  pub truths : (h : History) (parts : List SealedFields) (x : Identity) (ss : List Sighting) → IsHistory h parts → 1 ≤ length ss
-      → ((s : Sighting) → Among ss s → Among (sightings x (seen (releases_of h parts))) s) → verdict (map (λ s. s.part) parts) x ss ≡ truth (releases_of h parts) x
+  pub chain : (h : History) → IsHistory h → IsChain (parts_of h)
+  pub few : (h : History) → IsHistory h → members h ≤ 64
+  pub texts : (h : History) → IsHistory h → All Fits (parts_of h)
+  pub truths : (h : History) (x : Identity) (ss : List Sighting) → IsHistory h → 1 ≤ length ss
+      → ((s : Sighting) → Among ss s → Among (sightings x (seen (releases_of h))) s) → verdict (map (λ s. s.part) (parts_of h)) x ss ≡ truth (releases_of h) x
   pub grown : (parts : List SealedFields) (p : SealedFields) → IsChain (parts ++ p ∷ []) → 1 ≤ length parts → length parts < 64 → IsChain parts × (refusal_of parts p ≡ None)
   pub store_read : (parts : List SealedFields) → IsChain parts → 1 ≤ length parts → length parts ≤ 64 → All Fits parts → value_of (store (store_text parts) 0) ≡ Ok parts
   pub part_read : (s : SealedFields) (rest : List ℕ) → Fits s → part (spelling s ++ rest) 0 ≡ Ok (s, length (spelling s))
@@ -102,75 +101,75 @@ read_job bytes job h = ap (faulted of_job) h
 pub job_input : (files : Files) (name : List ℕ) (job : JobFields) → HoldsJob files name job → input name job_in (get files name) ≡ Ok job
 job_input files name job h = rw h.1 (ap (named name) (read_job h.0 job h.2))
 
-pub ledger_input : ReadBack → (files : Files) (name : List ℕ) (h : History) (parts : List SealedFields) → IsHistory h parts → 1 ≤ members h → HoldsLedger files name h parts
-    → input name ledger_in (get files name) ≡ Ok (ledger_of (releases_of h parts))
-ledger_input back files name h parts is some (inl held) =
-    rw held (ap (λ (r : Result LedgerFields LedgerFault). named name (faulted of_ledger r)) (back.value h parts is some))
-ledger_input back files name h parts is some (inr held) =
-    rw held.0 (ap (λ (r : Result LedgerFields LedgerFault). named name (faulted of_ledger r)) (back.old_value h parts is some held.1))
+pub ledger_input : ReadBack → (files : Files) (name : List ℕ) (h : History) → IsHistory h → 1 ≤ members h → HoldsLedger files name h
+    → input name ledger_in (get files name) ≡ Ok (ledger_of (releases_of h))
+ledger_input back files name h is some (inl held) =
+    rw held (ap (λ (r : Result LedgerFields LedgerFault). named name (faulted of_ledger r)) (back.value h is some))
+ledger_input back files name h is some (inr held) =
+    rw held.0 (ap (λ (r : Result LedgerFields LedgerFault). named name (faulted of_ledger r)) (back.old_value h is some held.1))
 
 module _ (layers : Layers) where
   -- what is published behind the ledger of a history continues it
-  published_by : (asked : Command) (h : History) (parts : List SealedFields) (job : JobFields) (d : Done) (name part ledger : List ℕ) (before : LedgerFields) → IsHistory h parts
-      → before ≡ ledger_of (releases_of h parts) → ((p : PublicationFields) → done_by asked p ≡ publication_done part ledger p)
+  published_by : (asked : Command) (h : History) (job : JobFields) (d : Done) (name part ledger : List ℕ) (before : LedgerFields) → IsHistory h
+      → before ≡ ledger_of (releases_of h) → ((p : PublicationFields) → done_by asked p ≡ publication_done part ledger p)
       → (fits : FitsFields job) (limits : IsWithinLimits PUBLISHED job) (r : Result PublicationFields PublishFault) → Publishes before job r
-      → Ok d ≡ published_as name part ledger r → (made : PublicationFields) × Continues h parts job made × (d ≡ done_by asked made)
-  published_by asked h parts job d name part ledger before is ledger_is outputs fits limits (Ok p) pub_ is_done =
-      let x : Publishes (ledger_of (releases_of h parts)) job (Ok p) = subst (λ (l : LedgerFields). Publishes l job (Ok p)) ledger_is pub_ in (
+      → Ok d ≡ published_as name part ledger r → (made : PublicationFields) × Continues h job made × (d ≡ done_by asked made)
+  published_by asked h job d name part ledger before is ledger_is outputs fits limits (Ok p) pub_ is_done =
+      let x : Publishes (ledger_of (releases_of h)) job (Ok p) = subst (λ (l : LedgerFields). Publishes l job (Ok p)) ledger_is pub_ in (
         p,
         record {
           fits = fits;
-          admissible = layers.admissible h parts job p is fits.publishing limits x;
-          is_history = layers.next h parts job p is fits.publishing limits x;
-          ledger = layers.ledger h parts job p is x;
+          admissible = layers.admissible h job p is fits.publishing limits x;
+          is_history = layers.next h job p is fits.publishing limits x;
+          ledger = layers.ledger h job p is x;
           epoch = ap (λ (head : HeadFields). head.epoch) x.1.head_is;
-          place = layers.place h parts job p is x;
-          counts = layers.numbers h parts job p is x;
+          place = layers.place h job p is x;
+          counts = layers.numbers h job p is x;
         },
         ok_same {E = NamedFault} d (publication_done part ledger p) is_done ∙ sym (outputs p),
       )
-  published_by asked h parts job d name part ledger before is ledger_is outputs fits limits (Err fault) pub_ is_done =
+  published_by asked h job d name part ledger before is ledger_is outputs fits limits (Err fault) pub_ is_done =
       absurd (let h : ◌≡◌ {A = Result Done NamedFault} (Ok d) (published_as name part ledger (Err fault)) = is_done in cc)
 
   -- what a command that continues a history makes
-  pub record Behind (asked : Command) (h : History) (parts : List SealedFields) (job : JobFields) (o : Result Done NamedFault) : Type 0 where
+  pub record Behind (asked : Command) (h : History) (job : JobFields) (o : Result Done NamedFault) : Type 0 where
     pub name : List ℕ
     pub part_name : List ℕ
     pub ledger_name : List ℕ
     pub before : LedgerFields
-    pub is_before : before ≡ ledger_of (releases_of h parts)
+    pub is_before : before ≡ ledger_of (releases_of h)
     pub outputs : (p : PublicationFields) → done_by asked p ≡ publication_done part_name ledger_name p
     pub makes : MakesPart name part_name ledger_name before job o
 
-  behind : (asked : Command) (files : Files) (h : History) (parts : List SealedFields) (job : JobFields) (o : Result Done NamedFault)
-      → IsHistory h parts → AsksToContinue asked h parts job files
-      → Makes asked (held_by asked files) o → Behind asked h parts job o
-  behind (commands.Snapshot s) files h parts job o is p m = record {
+  behind : (asked : Command) (files : Files) (h : History) (job : JobFields) (o : Result Done NamedFault)
+      → IsHistory h → AsksToContinue asked h job files
+      → Makes asked (held_by asked files) o → Behind asked h job o
+  behind (commands.Snapshot s) files h job o is p m = record {
     name = s.job;
     part_name = s.part;
     ledger_name = s.ledger;
     before = no_ledger;
-    is_before = sym layers.none ∙ ap (λ (k : History). ledger_of (releases_of k [])) (sym p.0) ∙ ap (λ (ps : List SealedFields). ledger_of (releases_of h ps)) (sym p.1);
+    is_before = sym layers.none ∙ ap (λ (k : History). ledger_of (releases_of k)) (sym p.0);
     outputs = λ p. refl;
-    makes = subst (λ (r : Result JobFields NamedFault). MakesSnapshot s r o) (job_input files s.job job p.2) m;
+    makes = subst (λ (r : Result JobFields NamedFault). MakesSnapshot s r o) (job_input files s.job job p.1) m;
   }
-  behind (commands.Delta t) files h parts job o is p m = record {
+  behind (commands.Delta t) files h job o is p m = record {
     name = t.job;
     part_name = t.part;
     ledger_name = t.new_ledger;
-    before = ledger_of (releases_of h parts);
+    before = ledger_of (releases_of h);
     is_before = refl;
     outputs = λ p. refl;
-    makes = subst (λ (l : Result LedgerFields NamedFault). MakesDelta t (Ok job) l o) (ledger_input layers.ledgers files t.ledger h parts is p.0 p.1)
+    makes = subst (λ (l : Result LedgerFields NamedFault). MakesDelta t (Ok job) l o) (ledger_input layers.ledgers files t.ledger h is p.0 p.1)
         (subst (λ (r : Result JobFields NamedFault). MakesDelta t r (input t.ledger ledger_in (get files t.ledger)) o) (job_input files t.job job p.2) m);
   }
-  behind asked files h parts job o is p m = absurd p
+  behind asked files h job o is p m = absurd p
 
-  pub published : (asked : Command) (files : Files) (h : History) (parts : List SealedFields) (job : JobFields) (d : Done) → IsHistory h parts → AsksToContinue asked h parts job files
-      → Makes asked (held_by asked files) (Ok d) → (made : PublicationFields) × Continues h parts job made × (d ≡ done_by asked made)
-  published asked files h parts job d is p m =
-      let b = behind asked files h parts job (Ok d) is p m in
-      published_by asked h parts job d b.name b.part_name b.ledger_name b.before is b.is_before b.outputs b.makes.fits b.makes.limits b.makes.result b.makes.publishes b.makes.is
+  pub published : (asked : Command) (files : Files) (h : History) (job : JobFields) (d : Done) → IsHistory h → AsksToContinue asked h job files
+      → Makes asked (held_by asked files) (Ok d) → (made : PublicationFields) × Continues h job made × (d ≡ done_by asked made)
+  published asked files h job d is p m =
+      let b = behind asked files h job (Ok d) is p m in
+      published_by asked h job d b.name b.part_name b.ledger_name b.before is b.is_before b.outputs b.makes.fits b.makes.limits b.makes.result b.makes.publishes b.makes.is
 
   sure_done : (name part ledger : List ℕ) (before : LedgerFields) (job : JobFields) (o : Result Done NamedFault) (p : PublicationFields) → Publishes before job (Ok p) → (r : Result PublicationFields PublishFault)
       → Publishes before job r → o ≡ published_as name part ledger r → (d : Done) × (o ≡ Ok d)
@@ -178,12 +177,12 @@ module _ (layers : Layers) where
   sure_done name part ledger before job o p x (Err fault) y is =
       absurd (let h : ◌≡◌ {A = Result PublicationFields PublishFault} (Ok p) (Err fault) = layers.publishing.one before job (Ok p) (Err fault) x y in cc)
 
-  pub admitted : (asked : Command) (files : Files) (h : History) (parts : List SealedFields) (job : JobFields) (o : Result Done NamedFault)
-      → IsHistory h parts → AsksToContinue asked h parts job files
-      → IsAdmissible (releases_of h parts) (in_format current job) → Makes asked (held_by asked files) o → (d : Done) × (o ≡ Ok d)
-  admitted asked files h parts job o is p a m =
-      let b = behind asked files h parts job o is p m in
-      let x = layers.publishing.complete h parts job is a in
+  pub admitted : (asked : Command) (files : Files) (h : History) (job : JobFields) (o : Result Done NamedFault)
+      → IsHistory h → AsksToContinue asked h job files
+      → IsAdmissible (releases_of h) (in_format current job) → Makes asked (held_by asked files) o → (d : Done) × (o ≡ Ok d)
+  admitted asked files h job o is p a m =
+      let b = behind asked files h job o is p m in
+      let x = layers.publishing.complete h job is a in
       sure_done b.name b.part_name b.ledger_name b.before job o x.0 (subst (λ (l : LedgerFields). Publishes l job (Ok x.0)) (sym b.is_before) x.1) b.makes.result b.makes.publishes b.makes.is
 
   -- ---- stores
@@ -233,21 +232,21 @@ module _ (layers : Layers) where
   begun_with s kinds.Snapshot h = refl
   begun_with s kinds.Delta h = absurd cc
 
-  start_stored : (t : Start) (files : Files) (h : History) (s : SealedFields) (o : Result Done NamedFault) → IsHistory h (s ∷ []) → get files t.part ≡ Some (part_bytes s)
+  start_stored : (t : Start) (files : Files) (h : History) (s : SealedFields) (o : Result Done NamedFault) → IsHistory h → parts_of h ≡ s ∷ [] → get files t.part ≡ Some (part_bytes s)
       → o ≡ start_makes t (get files t.part) → o ≡ Ok (stored t.store (s ∷ []))
-  start_stored t files h s o is held m =
-      let fits : Fits s = All-head Fits s [] (layers.texts h (s ∷ []) is) in
+  start_stored t files h s o is are held m =
+      let fits : Fits s = All-head Fits s [] (subst (All Fits) are (layers.texts h is)) in
       m ∙ ap (λ (r : Result (SealedFields × ℕ) NamedFault). r >>= (λ x. named t.part (begun_by x.0 x.0.part.head.kind) >>= (λ parts. Ok (stored t.store parts)))) (part_input files t.part s fits held)
-      ∙ ap (λ (r : Result (List SealedFields) FileFault). named t.part r >>= (λ parts. Ok (stored t.store parts))) (begun_with s s.part.head.kind (layers.chain h (s ∷ []) is).0)
+      ∙ ap (λ (r : Result (List SealedFields) FileFault). named t.part r >>= (λ parts. Ok (stored t.store parts))) (begun_with s s.part.head.kind (subst IsChain are (layers.chain h is)).0)
 
   install_stored : (i : Install) (files : Files) (h : History) (parts : List SealedFields) (s : SealedFields) (o : Result Done NamedFault)
-      → IsHistory h (parts ++ s ∷ []) → 1 ≤ length parts
+      → IsHistory h → parts_of h ≡ parts ++ s ∷ [] → 1 ≤ length parts
       → get files i.store ≡ Some (store_bytes parts) → get files i.part ≡ Some (part_bytes s) → o ≡ install_makes i (get files i.store) (get files i.part)
       → o ≡ Ok (stored i.new_store (parts ++ s ∷ []))
-  install_stored i files h parts s o is some store_held part_held m =
-      let few : length parts < 64 = omega (arith, layers.few h (parts ++ s ∷ []) is, length_push parts s) in
-      let grown = layers.grown parts s (layers.chain h (parts ++ s ∷ []) is) some few in
-      let all = layers.texts h (parts ++ s ∷ []) is in
+  install_stored i files h parts s o is are some store_held part_held m =
+      let few : length parts < 64 = omega (arith, layers.few h is, ap length are, length_push parts s) in
+      let grown = layers.grown parts s (subst IsChain are (layers.chain h is)) some few in
+      let all = subst (All Fits) are (layers.texts h is) in
       m ∙ ap (λ (r : Result (List SealedFields) NamedFault). r >>=
       (λ ps. input i.part part_in (get files i.part) >>= (λ x. named i.part (installed_by (refusal_of ps x.0) ps x.0) >>=
       (λ more. Ok (stored i.new_store more)))))
@@ -257,31 +256,28 @@ module _ (layers : Layers) where
       (part_input files i.part s (last_fits parts s all) part_held)
       ∙ ap (λ (why : Option Refusal). named i.part (installed_by why parts s) >>= (λ more. Ok (stored i.new_store more))) grown.1
 
-  pub stored_law : (asked : Command) (files : Files) (h : History) (parts : List SealedFields) (s : SealedFields) (o : Result Done NamedFault) → IsHistory h (parts ++ s ∷ [])
-      → AsksToStore asked parts s files → Makes asked (held_by asked files) o → (d : Done) × (o ≡ Ok d) × Stored asked parts s d
-  stored_law (commands.Start t) files h [] s o is p m = stored_is (commands.Start t) t.store [] s o (λ b. refl) (start_stored t files h s o is p.1 m)
-  stored_law (commands.Start t) files h (q ∷ parts) s o is p m = absurd (let h : ◌≡◌ {A = List SealedFields} (q ∷ parts) [] = p.0 in cc)
-  stored_law (commands.Install i) files h parts s o is p m = stored_is (commands.Install i) i.new_store parts s o (λ b. refl) (install_stored i files h parts s o is p.0 p.1 p.2 m)
-  stored_law asked files h parts s o is p m = absurd p
+  pub stored_law : (asked : Command) (files : Files) (h : History) (parts : List SealedFields) (s : SealedFields) (o : Result Done NamedFault) → IsHistory h
+      → parts_of h ≡ parts ++ s ∷ [] → AsksToStore asked parts s files → Makes asked (held_by asked files) o → (d : Done) × (o ≡ Ok d) × Stored asked parts s d
+  stored_law (commands.Start t) files h [] s o is are p m = stored_is (commands.Start t) t.store [] s o (λ b. refl) (start_stored t files h s o is are p.1 m)
+  stored_law (commands.Start t) files h (q ∷ parts) s o is are p m = absurd (let h : ◌≡◌ {A = List SealedFields} (q ∷ parts) [] = p.0 in cc)
+  stored_law (commands.Install i) files h parts s o is are p m = stored_is (commands.Install i) i.new_store parts s o (λ b. refl) (install_stored i files h parts s o is are p.0 p.1 p.2 m)
+  stored_law asked files h parts s o is are p m = absurd p
 
   -- ---- asking
 
-  some_parts : (h : History) (parts : List SealedFields) → IsHistory h parts → 1 ≤ members h → 1 ≤ length parts
-  some_parts h parts is some = omega (arith, layers.many h parts is, some)
-
-  pub told_law : (asked : Command) (files : Files) (q : Query) (h : History) (parts : List SealedFields) (o : Result Done NamedFault)
-      → IsHistory h parts → AsksStore asked q h parts files → Makes asked (held_by asked files) o → o ≡ Ok (query_done q parts)
-  told_law asked files q h parts o is p m =
+  pub told_law : (asked : Command) (files : Files) (q : Query) (h : History) (o : Result Done NamedFault)
+      → IsHistory h → AsksStore asked q h files → Makes asked (held_by asked files) o → o ≡ Ok (query_done q (parts_of h))
+  told_law asked files q h o is p m =
       let made : o ≡ query_makes q (get files q.store) = subst (λ (c : Command). Makes c (held_by c files) o) p.0 m in
       made ∙ ap (λ (r : Result (List SealedFields) NamedFault). r >>= (λ ps. Ok (query_done q ps)))
-      (store_input files q.store parts (layers.chain h parts is) (some_parts h parts is p.1) (layers.few h parts is) (layers.texts h parts is) p.2)
+      (store_input files q.store (parts_of h) (layers.chain h is) p.1 (layers.few h is) (layers.texts h is) p.2)
 
-  pub asked_law : (asked : Command) (files : Files) (q : Query) (h : History) (parts : List SealedFields) (o : Result Done NamedFault)
-      → IsHistory h parts → AsksTruth asked q h parts files
-      → Makes asked (held_by asked files) o → o ≡ Ok (truth_done h parts q)
-  asked_law asked files q h parts o is p m =
-      told_law asked files q h parts o is (p.0, p.1, p.2) m
-      ∙ ap (λ (v : Verdict). Ok (only (line (verdict_word v)))) (layers.truths h parts q.id q.sightings is p.3 p.4)
+  pub asked_law : (asked : Command) (files : Files) (q : Query) (h : History) (o : Result Done NamedFault)
+      → IsHistory h → AsksTruth asked q h files
+      → Makes asked (held_by asked files) o → o ≡ Ok (truth_done h q)
+  asked_law asked files q h o is p m =
+      told_law asked files q h o is (p.0, p.1, p.2) m
+      ∙ ap (λ (v : Verdict). Ok (only (line (verdict_word v)))) (layers.truths h q.id q.sightings is p.3 p.4)
 
   -- ---- asking with a certificate
 
@@ -292,20 +288,20 @@ module _ (layers : Layers) where
   issuer_input : (files : Files) (name hash : List ℕ) → HoldsKey files name hash → input name issuer_in (get files name) ≡ Ok hash
   issuer_input files name hash (bytes, key, held, small, has, is) = rw held (ap (named name) (issuer_read bytes key hash small has is))
 
-  cert_asked : (files : Files) (q : QueryCert) (x : Identity) (ss : List Sighting) (h : History) (parts : List SealedFields) (o : Result Done NamedFault)
-      → IsHistory h parts → AsksCertTruth (commands.QueryCert q) q x ss h parts files
-      → o ≡ query_cert_makes q (get files q.store) (get files q.cert) (get files q.issuer_cert) → o ≡ Ok (only (cert_truth_line h parts x))
-  cert_asked files q x ss h parts o is a m =
+  cert_asked : (files : Files) (q : QueryCert) (x : Identity) (ss : List Sighting) (h : History) (o : Result Done NamedFault)
+      → IsHistory h → AsksCertTruth (commands.QueryCert q) q x ss h files
+      → o ≡ query_cert_makes q (get files q.store) (get files q.cert) (get files q.issuer_cert) → o ≡ Ok (only (cert_truth_line h x))
+  cert_asked files q x ss h o is a m =
       let cert : Certificate = record { serial = x.serial; scts = ss } in
       m ∙ ap (λ (r : Result (List SealedFields) NamedFault). r >>= cert_after q (get files q.cert) (get files q.issuer_cert))
-      (store_input files q.store parts (layers.chain h parts is) (some_parts h parts is a.some) (layers.few h parts is) (layers.texts h parts is) a.store)
-      ∙ ap (λ (r : Result Certificate NamedFault). r >>= cert_then q (get files q.issuer_cert) parts) (cert_input files q.cert x.serial ss a.cert)
-      ∙ ap (λ (r : Result (List ℕ) NamedFault). r >>= cert_last parts cert) (issuer_input files q.issuer_cert x.issuer a.issuer)
-      ∙ ap (λ (v : Verdict). Ok (only (line (verdict_word v)))) (truth_of_covered layers.truths h parts x ss is a.one a.covered)
+      (store_input files q.store (parts_of h) (layers.chain h is) a.some (layers.few h is) (layers.texts h is) a.store)
+      ∙ ap (λ (r : Result Certificate NamedFault). r >>= cert_then q (get files q.issuer_cert) (parts_of h)) (cert_input files q.cert x.serial ss a.cert)
+      ∙ ap (λ (r : Result (List ℕ) NamedFault). r >>= cert_last (parts_of h) cert) (issuer_input files q.issuer_cert x.issuer a.issuer)
+      ∙ ap (λ (v : Verdict). Ok (only (line (verdict_word v)))) (truth_of_covered layers.truths h x ss is a.one a.covered)
 
-  pub cert_law : (asked : Command) (files : Files) (q : QueryCert) (x : Identity) (ss : List Sighting) (h : History) (parts : List SealedFields)
-      (o : Result Done NamedFault) → IsHistory h parts → AsksCertTruth asked q x ss h parts files
-      → Makes asked (held_by asked files) o → o ≡ Ok (only (cert_truth_line h parts x))
-  cert_law asked files q x ss h parts o is a m =
-      let b : AsksCertTruth (commands.QueryCert q) q x ss h parts files = subst (λ (c : Command). AsksCertTruth c q x ss h parts files) a.is a in
-      cert_asked files q x ss h parts o is b (subst (λ (c : Command). Makes c (held_by c files) o) a.is m)
+  pub cert_law : (asked : Command) (files : Files) (q : QueryCert) (x : Identity) (ss : List Sighting) (h : History)
+      (o : Result Done NamedFault) → IsHistory h → AsksCertTruth asked q x ss h files
+      → Makes asked (held_by asked files) o → o ≡ Ok (only (cert_truth_line h x))
+  cert_law asked files q x ss h o is a m =
+      let b : AsksCertTruth (commands.QueryCert q) q x ss h files = subst (λ (c : Command). AsksCertTruth c q x ss h files) a.is a in
+      cert_asked files q x ss h o is b (subst (λ (c : Command). Makes c (held_by c files) o) a.is m)

@@ -30,7 +30,7 @@ use Rattle.universe_core.specs.Formats.{JobIn}
 use Rattle.universe_core.specs.History.{Release, seen, sightings}
 use Rattle.history_core.specs.Truth.{truth}
 use Rattle.audit_core.specs.Auditing.{AllAgree, left_by_jobs}
-use Rattle.publication_core.specs.Histories.{History, rebased, IsHistory, releases_of}
+use Rattle.publication_core.specs.Histories.{History, releases_of}
 use Rattle.cut_core.specs.Cutting.{cut_job, cut_in, IsCut}
 use Rattle.cut_core.specs.Courses.{Course, from_base, left, cut_course, course_of}
 use Rattle.cut_core.specs.InPlaces.{job_at}
@@ -68,12 +68,10 @@ pub record Laws : Type 0 where
       → raw_job limits bytes ≡ Ok j → job_of limits bytes ≡ Ok job → IsJob limits (spelling (cut_contents cut j)) (cut_job cut job)
   pub merged : (head : JobContents) (pieces : List JobContents) (job : JobContents) → IsMerged head pieces job → FitsJob PUBLISHED head
       → All (FitsJob piece_limits) pieces → length job.entries ≤ PUBLISHED.entries → job_of PUBLISHED (spelling job) ≡ reading_of PUBLISHED job
-  pub beside : (cut : Cut) (c : Course) (h : History) (parts : List SealedFields) → course_of h ≡ cut_course cut c → IsHistory h parts
-      → AllZip (IsCut cut) (left c) (releases_of h parts)
-  pub begun : (cut : Cut) (whole : History) (old : List SealedFields) (moment : ℕ) (jobs : List JobIn) (parts : List SealedFields)
-      → IsHistory (rebased whole old moment cut (map (cut_in cut) jobs)) parts
-      → AllZip (IsCut cut) (left (from_base (course_of whole) moment everything jobs))
-      (releases_of (rebased whole old moment cut (map (cut_in cut) jobs)) parts)
+  pub beside : (cut : Cut) (c : Course) (h : History) → course_of h ≡ cut_course cut c
+      → AllZip (IsCut cut) (left c) (releases_of h)
+  pub begun : (cut : Cut) (c : Course) (moment : ℕ) (jobs : List JobIn) (h : History) → course_of h ≡ from_base c moment cut (map (cut_in cut) jobs)
+      → AllZip (IsCut cut) (left (from_base c moment everything jobs)) (releases_of h)
   pub same_sightings : (cut : Cut) (rs qs : List Release) (x : Identity) → AllZip (IsCut cut) rs qs → is_kept cut x ≡ true
       → sightings x (seen qs) ≡ sightings x (seen rs)
   pub same_truth : (cut : Cut) (rs qs : List Release) (x : Identity) → AllZip (IsCut cut) rs qs → is_kept cut x ≡ true → truth qs x ≡ truth rs x
@@ -214,36 +212,34 @@ module _ (call : Call) (laws : Laws) (ends : Ends call) (apart : IsApart call.as
 
   -- ---- answers
 
-  beside : (cut : Cut) (whole : Course) (h : History) (parts : List SealedFields) → IsCutOf cut whole h parts
-      → AllZip (IsCut cut) (left whole) (releases_of h parts)
-  beside cut whole h parts (is, inl same) = laws.beside cut whole h parts same is
-  beside cut whole h parts (is, inr s) =
-      subst (λ (c : Course). AllZip (IsCut cut) (left c) (releases_of h parts)) (sym s.all)
-      (subst (λ (k : History). IsHistory k parts → AllZip (IsCut cut) (left (from_base (course_of s.before) s.moment everything s.jobs))
-      (releases_of k parts)) (sym s.kept) (laws.begun cut s.before s.published s.moment s.jobs parts) is)
+  beside : (cut : Cut) (whole : Course) (h : History) → IsCutOf cut whole h
+      → AllZip (IsCut cut) (left whole) (releases_of h)
+  beside cut whole h (is, inl same) = laws.beside cut whole h same
+  beside cut whole h (is, inr s) =
+      subst (λ (c : Course). AllZip (IsCut cut) (left c) (releases_of h)) (sym s.all) (laws.begun cut s.before s.moment s.jobs h s.kept)
 
-  module _ (cut : Cut) (whole : Course) (h : History) (parts : List SealedFields) (of : IsCutOf cut whole h parts) (x : Identity)
+  module _ (cut : Cut) (whole : Course) (h : History) (of : IsCutOf cut whole h) (x : Identity)
       (kept : is_kept cut x ≡ true) where
-    sightings_told : sightings x (seen (left whole)) ≡ sightings x (seen (releases_of h parts))
-    sightings_told = sym (laws.same_sightings cut (left whole) (releases_of h parts) x (beside cut whole h parts of) kept)
+    sightings_told : sightings x (seen (left whole)) ≡ sightings x (seen (releases_of h))
+    sightings_told = sym (laws.same_sightings cut (left whole) (releases_of h) x (beside cut whole h of) kept)
 
-    accepted : (s : Sighting) → Among (sightings x (seen (left whole))) s → Among (sightings x (seen (releases_of h parts))) s
+    accepted : (s : Sighting) → Among (sightings x (seen (left whole))) s → Among (sightings x (seen (releases_of h))) s
     accepted s = subst (λ (ts : List Sighting). Among ts s) sightings_told
 
-    prints_whole : Prints call (told_line (releases_of h parts) x) → Prints call (told_line (left whole) x)
+    prints_whole : Prints call (told_line (releases_of h) x) → Prints call (told_line (left whole) x)
     prints_whole =
         subst (λ (v : Verdict). Prints call (line (verdict_word v)))
-        (laws.same_truth cut (left whole) (releases_of h parts) x (beside cut whole h parts of) kept)
+        (laws.same_truth cut (left whole) (releases_of h) x (beside cut whole h of) kept)
 
-  asks_itself : (cut : Cut) (whole : Course) (q : StoreQuery) (h : History) (parts : List SealedFields) → IsCutOf cut whole h parts
-      → is_kept cut q.id ≡ true → Found call (AsksTruthBy (left whole) call.asked q h parts) → Found call (AsksTruth call.asked q h parts)
-  asks_itself cut whole q h parts of kept (files, told, p) =
-      (files, told, (p.0, p.1, p.2, p.3, λ s a. accepted cut whole h parts of q.id kept s (p.4 s a)))
+  asks_itself : (cut : Cut) (whole : Course) (q : StoreQuery) (h : History) → IsCutOf cut whole h
+      → is_kept cut q.id ≡ true → Found call (AsksTruthBy (left whole) call.asked q h) → Found call (AsksTruth call.asked q h)
+  asks_itself cut whole q h of kept (files, told, p) =
+      (files, told, (p.0, p.1, p.2, p.3, λ s a. accepted cut whole h of q.id kept s (p.4 s a)))
 
-  cert_asks_itself : (cut : Cut) (whole : Course) (q : QueryCert) (x : Identity) (ts : List Sighting) (h : History) (parts : List SealedFields)
-      → IsCutOf cut whole h parts → is_kept cut x ≡ true → Found call (AsksCertBy (left whole) call.asked q x ts h parts)
-      → Found call (AsksCertTruth call.asked q x ts h parts)
-  cert_asks_itself cut whole q x ts h parts of kept (files, told, p) = (
+  cert_asks_itself : (cut : Cut) (whole : Course) (q : QueryCert) (x : Identity) (ts : List Sighting) (h : History)
+      → IsCutOf cut whole h → is_kept cut x ≡ true → Found call (AsksCertBy (left whole) call.asked q x ts h)
+      → Found call (AsksCertTruth call.asked q x ts h)
+  cert_asks_itself cut whole q x ts h of kept (files, told, p) = (
     files,
     told,
     record {
@@ -252,8 +248,8 @@ module _ (call : Call) (laws : Laws) (ends : Ends call) (apart : IsApart call.as
       store = p.store;
       cert = p.cert;
       issuer = p.issuer;
-      one = (p.one.0, p.one.1, accepted cut whole h parts of x kept p.one.0 p.one.2);
-      covered = λ s t a b c. accepted cut whole h parts of x kept s (p.covered s t a b c);
+      one = (p.one.0, p.one.1, accepted cut whole h of x kept p.one.0 p.one.2);
+      covered = λ s t a b c. accepted cut whole h of x kept s (p.covered s t a b c);
     },
   )
 
@@ -261,13 +257,13 @@ module _ (call : Call) (laws : Laws) (ends : Ends call) (apart : IsApart call.as
   places = record {
     cut = cut_clause;
     merged = merged_clause;
-    truth = λ cut whole q h parts of kept asks well.
-        prints_whole cut whole h parts of q.id kept (hs.truth q h parts of.0 (asks_itself cut whole q h parts of kept asks) well);
-    answered = λ cut whole q h parts of kept asks. hs.answered q h parts of.0 (asks_itself cut whole q h parts of kept asks);
-    cert_truth = λ cut whole q x ts h parts of kept asks well.
-        prints_whole cut whole h parts of x kept (hs.cert_truth q x ts h parts of.0 (cert_asks_itself cut whole q x ts h parts of kept asks) well);
-    cert_answered = λ cut whole q x ts h parts of kept asks.
-        hs.cert_answered q x ts h parts of.0 (cert_asks_itself cut whole q x ts h parts of kept asks);
+    truth = λ cut whole q h of kept asks well.
+        prints_whole cut whole h of q.id kept (hs.truth q h of.0 (asks_itself cut whole q h of kept asks) well);
+    answered = λ cut whole q h of kept asks. hs.answered q h of.0 (asks_itself cut whole q h of kept asks);
+    cert_truth = λ cut whole q x ts h of kept asks well.
+        prints_whole cut whole h of x kept (hs.cert_truth q x ts h of.0 (cert_asks_itself cut whole q x ts h of kept asks) well);
+    cert_answered = λ cut whole q x ts h of kept asks.
+        hs.cert_answered q x ts h of.0 (cert_asks_itself cut whole q x ts h of kept asks);
     audited = λ a did.
         let x = ss.audit a did in (
           x.0,

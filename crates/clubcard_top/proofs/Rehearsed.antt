@@ -9,13 +9,12 @@ use Rattle.outside_core.specs.Files.{Files}
 use Rattle.input_core.specs.Queries.{Query}
 use Rattle.input_core.specs.QueryReading.{queries_in as queries_of}
 use Rattle.input_core.specs.declared.fault.QueriesFault.{QueriesFault}
-use Rattle.part_text.specs.SealedFields.{SealedFields}
 use Rattle.job_core.specs.declared.bounds.TheConstants.Limits.{PUBLISHED}
 use Rattle.job_core.specs.JobFields.{JobFields}
 use Rattle.job_core.specs.Fitting.{FitsFields}
 use Rattle.job_core.specs.JobMeaning.{job_of}
 use Rattle.card_core.specs.declared.verdict.Verdict.{Verdict}
-use Rattle.publication_core.specs.Histories.{chain, IsHistory}
+use Rattle.publication_core.specs.Histories.{Published, of_jobs, IsHistory}
 use Rattle.word_core.specs.declared.command.Command.{Command}
 use Rattle.word_core.specs.declared.command.Command.TheVariants as commands
 use Rattle.word_core.specs.declared.command.Rehearse.{Rehearse}
@@ -27,11 +26,12 @@ use Rattle.command_core.specs.ReplyFields.{Done, NamedFault}
 use Rattle.command_core.specs.Commands.{named, input, verdict_word, rehearsed, MakesRehearsal, Makes}
 use Rattle.command_core.specs.Steps.{RehearsesOn}
 use Rattle.command_core.specs.Replies.{held_under, held_by}
-use Rattle.clubcard_top.specs.Headline.{HoldsJob, HoldsQueries, AsksToRehearse, IsRehearsed}
+use Rattle.clubcard_top.specs.Headline.{HoldsJob, HoldsMember, HoldsQueries, AsksToRehearse, IsRehearsed}
 use Rattle.command_core.proofs.Existing.{job_value}
 use Rattle.command_core.proofs.Results.{ok_same, not_ok}
-use Rattle.command_core.proofs.Unique.{job_same, refused_follows}
+use Rattle.command_core.proofs.Unique.{refused_follows, member_same}
 use Rattle.clubcard_top.proofs.Made.{Layers, job_input}
+use Rattle.command_core.proofs.Chains.{first_jobs}
 use Rattle.command_core.proofs.Prefixes.{from_first}
 
 -- ---- what is read
@@ -51,60 +51,61 @@ queries_held files name queries (Some b) held h = (b, held, queries_value name q
 queries_input : (files : Files) (name : List ℕ) (queries : List Query) → HoldsQueries files name queries → input name queries_in (get files name) ≡ Ok queries
 queries_input files name queries h = rw h.1 (ap (λ (r : Result (List Query) QueriesFault). named name (faulted of_queries r)) h.2)
 
+-- the job of a member fits its fields
+abbrev Fits : Published → Type 0
+Fits p = FitsFields p.job.job
+
 module _ (layers : Layers) (files : Files) where
   -- ---- what was rehearsed
 
   -- the files hold these jobs, which are a history behind others
-  pub record Follows (queries : List Query) (jobs : List JobFields) (names : List (List ℕ)) (d : Done) : Type 0 where
-    pub others : List JobFields
-    pub parts : List SealedFields
-    pub held : AllZip (HoldsJob files) names others
-    pub fit : All FitsFields others
-    pub is_history : IsHistory (chain (jobs ++ others)) parts
-    pub done : d ≡ rehearsed queries (jobs ++ others) parts
+  pub record Follows (queries : List Query) (jobs : List Published) (names : List (List ℕ)) (d : Done) : Type 0 where
+    pub others : List Published
+    pub held : AllZip (HoldsMember files) names others
+    pub fit : All Fits others
+    pub is_history : IsHistory (of_jobs (jobs ++ others))
+    pub done : d ≡ rehearsed queries (jobs ++ others)
 
-  follows_none : (queries : List Query) (jobs : List JobFields) (parts : List SealedFields) (d : Done) → IsHistory (chain jobs) parts → d ≡ rehearsed queries jobs parts → Follows queries jobs [] d
-  follows_none queries jobs parts d is same = record {
+  follows_none : (queries : List Query) (jobs : List Published) (d : Done) → IsHistory (of_jobs jobs) → d ≡ rehearsed queries jobs → Follows queries jobs [] d
+  follows_none queries jobs d is same = record {
     others = [];
-    parts = parts;
     held = tt;
-    fit = All-nil FitsFields;
-    is_history = subst (λ (js : List JobFields). IsHistory (chain js) parts) (sym (append-nil jobs)) is;
-    done = same ∙ ap (λ (js : List JobFields). rehearsed queries js parts) (sym (append-nil jobs));
+    fit = All-nil Fits;
+    is_history = subst (λ (ps : List Published). IsHistory (of_jobs ps)) (sym (append-nil jobs)) is;
+    done = same ∙ ap (rehearsed queries) (sym (append-nil jobs));
   }
 
-  follows_one : (queries : List Query) (jobs : List JobFields) (job : JobFields) (name : List ℕ) (names : List (List ℕ)) (d : Done) → HoldsJob files name job
-      → FitsFields job → Follows queries (jobs ++ job ∷ []) names d → Follows queries jobs (name ∷ names) d
-  follows_one queries jobs job name names d held fits f = record {
-    others = job ∷ f.others;
-    parts = f.parts;
+  follows_one : (queries : List Query) (jobs : List Published) (p : Published) (name : List ℕ) (names : List (List ℕ)) (d : Done) → HoldsMember files name p
+      → Fits p → Follows queries (jobs ++ p ∷ []) names d → Follows queries jobs (name ∷ names) d
+  follows_one queries jobs p name names d held fits f = record {
+    others = p ∷ f.others;
     held = (held, f.held);
-    fit = All-cons FitsFields job f.others fits f.fit;
-    is_history = subst (λ (js : List JobFields). IsHistory (chain js) f.parts) (append_assoc jobs (job ∷ []) f.others) f.is_history;
-    done = f.done ∙ ap (λ (js : List JobFields). rehearsed queries js f.parts) (append_assoc jobs (job ∷ []) f.others);
+    fit = All-cons Fits p f.others fits f.fit;
+    is_history = subst (λ (ps : List Published). IsHistory (of_jobs ps)) (append_assoc jobs (p ∷ []) f.others) f.is_history;
+    done = f.done ∙ ap (rehearsed queries) (append_assoc jobs (p ∷ []) f.others);
   }
 
-  follows : (queries : List Query) (jobs : List JobFields) (parts : List SealedFields) (names : List (List ℕ)) (d : Done) → IsHistory (chain jobs) parts
-      → RehearsesOn queries jobs parts names (held_under files names) (Ok d) → Follows queries jobs names d
-  follows queries jobs parts [] d is m = follows_none queries jobs parts d is (ok_same {E = NamedFault} d (rehearsed queries jobs parts) m)
-  follows queries jobs parts (name ∷ names) d is (inl (e, refused, same)) = absurd (not_ok d e (sym same))
-  follows queries jobs parts (name ∷ names) d is (inr (job, more, is_job, fits, is_more, rest)) =
-      follows_one queries jobs job name names d (job_held files name job (get files name) refl is_job) fits (follows queries (jobs ++ job ∷ []) more names d is_more rest)
+  follows : (queries : List Query) (jobs : List Published) (names : List (List ℕ)) (d : Done) → IsHistory (of_jobs jobs)
+      → RehearsesOn queries jobs names (held_under files names) (Ok d) → Follows queries jobs names d
+  follows queries jobs [] d is m = follows_none queries jobs d is (ok_same {E = NamedFault} d (rehearsed queries jobs) m)
+  follows queries jobs (name ∷ names) d is (inl (e, refused, same)) = absurd (not_ok d e (sym same))
+  follows queries jobs (name ∷ names) d is (inr (p, is_job, fits, is_more, rest)) =
+      follows_one queries jobs p name names d (job_held files name p.job.job (get files name) refl is_job.0, is_job.1) fits
+      (follows queries (jobs ++ p ∷ []) names d is_more rest)
 
   abbrev pub IsRehearsal : Command → Done → Type 0
-  IsRehearsal asked d = (queries : List Query) × (jobs : List JobFields) × (parts : List SealedFields) × AsksToRehearse asked queries jobs files
-      × IsRehearsed queries jobs parts × (d ≡ rehearsed queries jobs parts)
+  IsRehearsal asked d = (queries : List Query) × (jobs : List Published) × AsksToRehearse asked queries jobs files
+      × IsRehearsed queries jobs × (d ≡ rehearsed queries jobs)
 
   rehearsed_as : (r : Rehearse) (d : Done) (queries : List Query) → HoldsQueries files r.queries queries → Follows queries [] r.jobs d → IsRehearsal (commands.Rehearse r) d
   rehearsed_as r d queries held f = (
     queries,
     f.others,
-    f.parts,
     (held, f.held),
     record {
       fit = f.fit;
       is_history = f.is_history;
-      truths = λ q among asked. ap (λ (v : Verdict). line (verdict_word v)) (layers.truths (chain f.others) f.parts q.identity q.sightings f.is_history asked.0 asked.1);
+      truths = λ q among asked. ap (λ (v : Verdict). line (verdict_word v)) (layers.truths (of_jobs f.others) q.identity q.sightings f.is_history asked.0 asked.1);
     },
     f.done,
   )
@@ -113,7 +114,7 @@ module _ (layers : Layers) (files : Files) where
       → MakesRehearsal r queries (held_under files r.jobs) (Ok d)
       → IsRehearsal (commands.Rehearse r) d
   rehearsed_by r d (Ok queries) is m = rehearsed_as r d queries (queries_held files r.queries queries (get files r.queries) refl is)
-      (follows queries [] [] r.jobs d tt (from_first queries r.jobs (held_under files r.jobs) (Ok d) m))
+      (follows queries [] r.jobs d tt (from_first queries r.jobs (held_under files r.jobs) (Ok d) m))
   rehearsed_by r d (Err e) is m = absurd (not_ok d e (sym m))
 
   pub rehearsed_law : (asked : Command) (r : Rehearse) (d : Done) → asked ≡ commands.Rehearse r → Makes asked (held_by asked files) (Ok d) → IsRehearsal asked d
@@ -123,28 +124,27 @@ module _ (layers : Layers) (files : Files) where
 
   -- ---- histories are rehearsed
 
-  goes_on : (queries : List Query) (jobs : List JobFields) (parts : List SealedFields) (names : List (List ℕ)) (others : List JobFields)
-      (all : List SealedFields) (o : Result Done NamedFault) → IsHistory (chain jobs) parts
-      → IsHistory (chain (jobs ++ others)) all → AllZip (HoldsJob files) names others → RehearsesOn queries jobs parts names (held_under files names) o → o ≡ Ok (rehearsed queries (jobs ++ others) all)
-  goes_on queries jobs parts [] [] all o is is_all held m =
-      let same : parts ≡ all = layers.publishing.parts (chain jobs) parts all is (subst (λ (js : List JobFields). IsHistory (chain js) all) (append-nil jobs) is_all) in
-      m ∙ ap (λ (ps : List SealedFields). Ok (rehearsed queries jobs ps)) same ∙ ap (λ (js : List JobFields). Ok (rehearsed queries js all)) (sym (append-nil jobs))
-  goes_on queries jobs parts [] (j ∷ others) all o is is_all held m = absurd held
-  goes_on queries jobs parts (name ∷ names) [] all o is is_all held m = absurd held
-  goes_on queries jobs parts (name ∷ names) (j ∷ others) all o is is_all held (inl (e, refused, same)) =
-      absurd (refused_follows layers.publishing jobs parts name (get files name) e j others all is (job_input files name j held.0) is_all refused)
-  goes_on queries jobs parts (name ∷ names) (j ∷ others) all o is is_all held (inr (job, more, is_job, fits, is_more, rest)) =
-      let same : job ≡ j = job_same layers.publishing job j (input name job_in (get files name)) is_job (job_input files name j held.0) in
-      goes_on queries (jobs ++ j ∷ []) more names others all o (subst (λ (k : JobFields). IsHistory (chain (jobs ++ k ∷ [])) more) same is_more)
-      (subst (λ (js : List JobFields). IsHistory (chain js) all) (sym (append_assoc jobs (j ∷ []) others)) is_all) held.1
-      (subst (λ (k : JobFields). RehearsesOn queries (jobs ++ k ∷ []) more names (held_under files names) o) same rest)
-      ∙ ap (λ (js : List JobFields). Ok (rehearsed queries js all)) (append_assoc jobs (j ∷ []) others)
+  goes_on : (queries : List Query) (jobs : List Published) (names : List (List ℕ)) (others : List Published) (o : Result Done NamedFault) → IsHistory (of_jobs jobs)
+      → IsHistory (of_jobs (jobs ++ others)) → AllZip (HoldsMember files) names others → RehearsesOn queries jobs names (held_under files names) o
+      → o ≡ Ok (rehearsed queries (jobs ++ others))
+  goes_on queries jobs [] [] o is is_all held m = m ∙ ap (λ (ps : List Published). Ok (rehearsed queries ps)) (sym (append-nil jobs))
+  goes_on queries jobs [] (q ∷ others) o is is_all held m = absurd held
+  goes_on queries jobs (name ∷ names) [] o is is_all held m = absurd held
+  goes_on queries jobs (name ∷ names) (q ∷ others) o is is_all held (inl (e, refused, same)) =
+      absurd (refused_follows layers.publishing jobs name (get files name) e q others is (job_input files name q.job.job held.0.0, held.0.1) is_all refused)
+  goes_on queries jobs (name ∷ names) (q ∷ others) o is is_all held (inr (p, is_job, fits, is_more, rest)) =
+      let next : IsHistory (of_jobs (jobs ++ q ∷ [])) = first_jobs jobs q others is_all in
+      let same : p ≡ q = member_same layers.publishing jobs name (get files name) p q is_job (job_input files name q.job.job held.0.0, held.0.1) is_more next in
+      goes_on queries (jobs ++ q ∷ []) names others o next
+      (subst (λ (ps : List Published). IsHistory (of_jobs ps)) (sym (append_assoc jobs (q ∷ []) others)) is_all) held.1
+      (subst (λ (r : Published). RehearsesOn queries (jobs ++ r ∷ []) names (held_under files names) o) same rest)
+      ∙ ap (λ (ps : List Published). Ok (rehearsed queries ps)) (append_assoc jobs (q ∷ []) others)
 
-  pub done_law : (asked : Command) (queries : List Query) (jobs : List JobFields) (parts : List SealedFields) (o : Result Done NamedFault)
-      → IsHistory (chain jobs) parts → AsksToRehearse asked queries jobs files
-      → Makes asked (held_by asked files) o → o ≡ Ok (rehearsed queries jobs parts)
-  done_law (commands.Rehearse r) queries jobs parts o is p m =
-      goes_on queries [] [] r.jobs jobs parts o tt is p.1
+  pub done_law : (asked : Command) (queries : List Query) (jobs : List Published) (o : Result Done NamedFault)
+      → IsHistory (of_jobs jobs) → AsksToRehearse asked queries jobs files
+      → Makes asked (held_by asked files) o → o ≡ Ok (rehearsed queries jobs)
+  done_law (commands.Rehearse r) queries jobs o is p m =
+      goes_on queries [] r.jobs jobs o tt is p.1
       (from_first queries r.jobs (held_under files r.jobs) o (subst (λ (q : Result (List Query) NamedFault). MakesRehearsal r q (held_under files r.jobs) o)
       (queries_input files r.queries queries p.0) m))
-  done_law asked queries jobs parts o is p m = absurd p
+  done_law asked queries jobs o is p m = absurd p

@@ -63,6 +63,7 @@ use Rattle.command_core.specs.Runs.{with_outputs}
 use Rattle.clubcard_top.specs.Calls.{Call, Reads, NoFault}
 use Rattle.clubcard_top.specs.Endings.{Succeeds, Did, Gives, GivesDone, WantedMemory, Ends}
 use Rattle.command_core.specs.Audits.{audit_jobs, audit_done, MakesAudit, AreWithinLimits, IsAudited}
+use Rattle.publication_core.specs.Histories.{Published}
 use Rattle.clubcard_top.specs.Headline.{AsksToRehearse, IsRehearsed}
 use Rattle.clubcard_top.specs.Promises.{Successes}
 use Rattle.clubcard_top.specs.Successes.{ReadsPart, ReadsEntries, ReadsJobs, SaysTheTruth}
@@ -570,9 +571,8 @@ module _ (call : Call) where
   Rehearses =
       (files : Files) (r : Rehearse) (d : Done) → call.asked ≡ commands.Rehearse r
       → Makes call.asked (held_by call.asked files) (Ok d)
-      → (queries : List JobQuery) × (jobs : List JobFields) × (parts : List SealedFields)
-      × AsksToRehearse call.asked queries jobs files × IsRehearsed queries jobs parts
-      × (d ≡ rehearsed queries jobs parts)
+      → (queries : List JobQuery) × (jobs : List Published)
+      × AsksToRehearse call.asked queries jobs files × IsRehearsed queries jobs × (d ≡ rehearsed queries jobs)
 
   pub successes : Rehearses → Ends call → IsApart call.asked → Unique call → OneOutcome → Publishable → Rebasable → Truthful → Successes call
   successes law ends apart unique one publishable anew truthful =
@@ -595,10 +595,9 @@ module _ (call : Call) where
             let l = law did.files r a.d did.asked a.makes in (
               l.0,
               l.1,
-              l.2,
-              (did.files, did.told, l.3),
-              l.4,
-              subst (GivesDone call) l.5 (given_done did.files did.told apart a.d a.makes a.gives),
+              (did.files, did.told, l.2),
+              l.3,
+              subst (GivesDone call) l.4 (given_done did.files did.told apart a.d a.makes a.gives),
             );
         sample = sample ends apart;
         gather = λ g did.

@@ -15,7 +15,7 @@ use Rattle.universe_core.specs.Formats.{JobIn}
 use Rattle.universe_core.specs.History.{seen, sightings}
 use Rattle.history_core.specs.Truth.{truth}
 use Rattle.audit_core.specs.Auditing.{left_by_jobs}
-use Rattle.publication_core.specs.Histories.{History, rebased, IsHistory}
+use Rattle.publication_core.specs.Histories.{History, IsHistory}
 use Rattle.place_core.specs.Cuts.{Cut, is_kept, everything}
 use Rattle.cut_core.specs.Cutting.{cut_in}
 use Rattle.cut_core.specs.Courses.{Course, from_base, cut_course, course_of}
@@ -57,16 +57,15 @@ pub record Merges (call : Call) (m : Merge) (head : JobContents) (pieces : List 
 -- The history is begun by a split: by the base of what is kept of another one, where the whole begins with the base of
 -- all of it. Behind that it has the jobs of the whole, cut.
 pub record IsSplitOf (cut : Cut) (whole : Course) (h : History) : Type 0 where
-  pub before : History
-  pub published : List SealedFields
+  pub before : Course
   pub moment : ℕ
   pub jobs : List JobIn
-  pub all : whole ≡ from_base (course_of before) moment everything jobs
-  pub kept : h ≡ rebased before published moment cut (map (cut_in cut) jobs)
+  pub all : whole ≡ from_base before moment everything jobs
+  pub kept : course_of h ≡ from_base before moment cut (map (cut_in cut) jobs)
 
--- the history with these parts has the jobs of the whole, cut, or is begun by a split of it
-abbrev pub IsCutOf : Cut → Course → History → List SealedFields → Type 0
-IsCutOf cut whole h parts = IsHistory h parts × ((course_of h ≡ cut_course cut whole) ⊎ IsSplitOf cut whole h)
+-- the history has the jobs of the whole, cut, or is begun by a split of it
+abbrev pub IsCutOf : Cut → Course → History → Type 0
+IsCutOf cut whole h = IsHistory h × ((course_of h ≡ cut_course cut whole) ⊎ IsSplitOf cut whole h)
 
 -- The parts say the truth of each kept certificate of the whole jobs' history, asked with one or more of the sightings
 -- of its accepted entries.

@@ -24,7 +24,8 @@ use Rattle.card_core.specs.declared.verdict.Verdict.TheVariants.{NotEnrolled}
 use Rattle.universe_core.specs.History.{seen}
 use Rattle.audit_core.specs.Auditing.{left_by_jobs}
 use Rattle.publication_core.specs.Formats.{current}
-use Rattle.publication_core.specs.Histories.{IsAdmissible, History, with_job, chain, IsHistory, releases_of, LeavesOut}
+use Rattle.publication_core.specs.Histories.{Published, IsAdmissible, History, of_jobs, with_job, IsHistory}
+use Rattle.publication_core.specs.Histories.{parts_of, releases_of, LeavesOut}
 use Rattle.cut_core.specs.Cutting.{cut_job}
 use Rattle.cut_core.specs.Courses.{Course, left}
 use Rattle.cut_core.specs.InPlaces.{job_at}
@@ -128,9 +129,8 @@ pub record Successes (call : Call) : Type 0 where
       × (refusal_of parts s ≡ None) × GivesDone call (stored i.new_store (parts ++ s ∷ []))
   -- the jobs are a history, and their reports and the verdicts of its parts are printed
   pub rehearse : (r : Rehearse) → Did call (commands.Rehearse r)
-      → (queries : List Query) × (jobs : List JobFields) × (parts : List SealedFields)
-      × Found call (AsksToRehearse call.asked queries jobs) × IsRehearsed queries jobs parts
-      × GivesDone call (rehearsed queries jobs parts)
+      → (queries : List Query) × (jobs : List Published) × Found call (AsksToRehearse call.asked queries jobs)
+      × IsRehearsed queries jobs × GivesDone call (rehearsed queries jobs)
   -- the job that is made from NUMBER with COUNT entries
   pub sample : (s : Sample) → Did call (commands.Sample s) → GivesDone call (sample_done s)
   -- the raw job of HEAD with the entries of the pages, of the log LOG, behind its own; and where HEAD and the pages are
@@ -177,56 +177,56 @@ pub record Successes (call : Call) : Type 0 where
 -- success of `rehearse` is stands above; that of `kept` must come by `answered`, since a base keeps sightings.
 pub record Histories (call : Call) : Type 0 where
   -- `snapshot` and `delta`
-  pub published : (h : History) (parts : List SealedFields) (job : JobFields) → IsHistory h parts
-      → Found call (AsksToContinue call.asked h parts job) → Succeeds call
-      → (made : PublicationFields) × Continues h parts job made × GivesDone call (done_by call.asked made)
-  pub admitted : (h : History) (parts : List SealedFields) (job : JobFields) → IsHistory h parts
-      → Found call (AsksToContinue call.asked h parts job)
-      → IsAdmissible (releases_of h parts) (in_format current job) → MustSucceed call
+  pub published : (h : History) (job : JobFields) → IsHistory h
+      → Found call (AsksToContinue call.asked h job) → Succeeds call
+      → (made : PublicationFields) × Continues h job made × GivesDone call (done_by call.asked made)
+  pub admitted : (h : History) (job : JobFields) → IsHistory h
+      → Found call (AsksToContinue call.asked h job)
+      → IsAdmissible (releases_of h) (in_format current job) → MustSucceed call
   -- `rebase`, `rebase-without` and `split`
-  pub rebased : (r : Rebase) (h : History) (parts : List SealedFields) → IsHistory h parts
-      → Found call (AsksToRebase call.asked r h parts) → Succeeds call
-      → (made : BasePublicationFields) × BeginsAnew h parts r.moment (cut_without r.left) made
+  pub rebased : (r : Rebase) (h : History) → IsHistory h
+      → Found call (AsksToRebase call.asked r h) → Succeeds call
+      → (made : BasePublicationFields) × BeginsAnew h r.moment (cut_without r.left) made
       × GivesDone call (base_done r made)
-  pub rebasable : (r : Rebase) (h : History) (parts : List SealedFields) → IsHistory h parts
-      → Found call (AsksToRebase call.asked r h parts) → IsRebasableCut r.moment (cut_without r.left) h parts
+  pub rebasable : (r : Rebase) (h : History) → IsHistory h
+      → Found call (AsksToRebase call.asked r h) → IsRebasableCut r.moment (cut_without r.left) h
       → MustSucceed call
   -- `start` and `install`
-  pub stored : (h : History) (parts : List SealedFields) (s : SealedFields) → IsHistory h (parts ++ s ∷ [])
-      → Found call (AsksToStore call.asked parts s) → Succeeds call
+  pub stored : (h : History) (parts : List SealedFields) (s : SealedFields) → IsHistory h
+      → parts_of h ≡ parts ++ s ∷ [] → Found call (AsksToStore call.asked parts s) → Succeeds call
       → (d : Done) × Stored call.asked parts s d × GivesDone call d
-  pub taken : (h : History) (parts : List SealedFields) (s : SealedFields) → IsHistory h (parts ++ s ∷ [])
-      → Found call (AsksToStore call.asked parts s) → MustSucceed call
+  pub taken : (h : History) (parts : List SealedFields) (s : SealedFields) → IsHistory h
+      → parts_of h ≡ parts ++ s ∷ [] → Found call (AsksToStore call.asked parts s) → MustSucceed call
   -- `query`
-  pub truth : (q : StoreQuery) (h : History) (parts : List SealedFields) → IsHistory h parts
-      → Found call (AsksTruth call.asked q h parts) → Succeeds call → Prints call (truth_line h parts q)
-  pub answered : (q : StoreQuery) (h : History) (parts : List SealedFields) → IsHistory h parts
-      → Found call (AsksTruth call.asked q h parts) → MustSucceed call
+  pub truth : (q : StoreQuery) (h : History) → IsHistory h
+      → Found call (AsksTruth call.asked q h) → Succeeds call → Prints call (truth_line h q)
+  pub answered : (q : StoreQuery) (h : History) → IsHistory h
+      → Found call (AsksTruth call.asked q h) → MustSucceed call
   -- `query` of the store that the base of a history begins: of what has not expired and is of no issuer that is left
   -- out, it says what the history tells
-  pub kept : (q : StoreQuery) (h : History) (parts : List SealedFields) (moment : ℕ) (cut : Cut)
-      (s : SealedFields) → IsHistory (base_of h parts moment cut) (s ∷ [])
-      → Found call (AsksTheBase call.asked q h parts moment cut s) → Succeeds call
-      → Prints call (truth_line h parts q)
+  pub kept : (q : StoreQuery) (h : History) (moment : ℕ) (cut : Cut)
+      (s : SealedFields) → IsHistory (base_of h moment cut s)
+      → Found call (AsksTheBase call.asked q h moment cut s) → Succeeds call
+      → Prints call (truth_line h q)
   -- of an issuer that is left out, and that no job enrolls since, the store says that it isn't enrolled wherever it
   -- covers
-  pub left_out : (q : StoreQuery) (h : History) (parts : List SealedFields) → IsHistory h parts
-      → Found call (AsksOfLeftOut call.asked q h parts) → Succeeds call
+  pub left_out : (q : StoreQuery) (h : History) → IsHistory h
+      → Found call (AsksOfLeftOut call.asked q h) → Succeeds call
       → Prints call (line (verdict_word NotEnrolled))
   -- and it can come back: the first job that enrolls it accepts each of its entries that the job covers, also those that
   -- were accepted before the base, so that `truth` holds of them from then on
-  pub comes_back : (h : History) (parts : List SealedFields) (job : JobFields) (made : PublicationFields) (e : Entry)
-      → IsHistory h parts → LeavesOut h e.id.issuer → Brings job e → Continues h parts job made
-      → Among (seen (releases_of (with_job h (in_format current job)) (parts ++ made.sealed ∷ []))) e
+  pub comes_back : (h : History) (job : JobFields) (made : PublicationFields) (e : Entry)
+      → IsHistory h → LeavesOut h e.id.issuer → Brings job e → Continues h job made
+      → Among (seen (releases_of (with_job h (in_format current job) made.sealed))) e
   -- `query-cert`
   pub cert_truth : (q : QueryCert) (x : Identity) (ss : List Sighting)
-      (h : History) (parts : List SealedFields) → IsHistory h parts
-      → Found call (AsksCertTruth call.asked q x ss h parts) → Succeeds call → Prints call (cert_truth_line h parts x)
+      (h : History) → IsHistory h
+      → Found call (AsksCertTruth call.asked q x ss h) → Succeeds call → Prints call (cert_truth_line h x)
   pub cert_answered : (q : QueryCert) (x : Identity) (ss : List Sighting)
-      (h : History) (parts : List SealedFields) → IsHistory h parts
-      → Found call (AsksCertTruth call.asked q x ss h parts) → MustSucceed call
+      (h : History) → IsHistory h
+      → Found call (AsksCertTruth call.asked q x ss h) → MustSucceed call
   -- `rehearse`
-  pub followed : (queries : List Query) (jobs : List JobFields) (parts : List SealedFields) → IsHistory (chain jobs) parts
+  pub followed : (queries : List Query) (jobs : List Published) → IsHistory (of_jobs jobs)
       → Found call (AsksToRehearse call.asked queries jobs) → MustSucceed call
 
 -- What a call does where a history is cut into places. The whole is a course: jobs, or a base and jobs, however many
@@ -242,21 +242,21 @@ pub record Places (call : Call) : Type 0 where
       → (head : JobContents) × (pieces : List JobContents) × (job : JobContents) × Merges call m head pieces job
   -- `query`, over the store of a cut history: of a kept certificate, asked with accepted sightings of the whole, the
   -- line is the truth of the whole
-  pub truth : (cut : Cut) (whole : Course) (q : StoreQuery) (h : History) (parts : List SealedFields)
-      → IsCutOf cut whole h parts → is_kept cut q.id ≡ true
-      → Found call (AsksTruthBy (left whole) call.asked q h parts) → Succeeds call
+  pub truth : (cut : Cut) (whole : Course) (q : StoreQuery) (h : History)
+      → IsCutOf cut whole h → is_kept cut q.id ≡ true
+      → Found call (AsksTruthBy (left whole) call.asked q h) → Succeeds call
       → Prints call (told_line (left whole) q.id)
-  pub answered : (cut : Cut) (whole : Course) (q : StoreQuery) (h : History) (parts : List SealedFields)
-      → IsCutOf cut whole h parts → is_kept cut q.id ≡ true
-      → Found call (AsksTruthBy (left whole) call.asked q h parts) → MustSucceed call
+  pub answered : (cut : Cut) (whole : Course) (q : StoreQuery) (h : History)
+      → IsCutOf cut whole h → is_kept cut q.id ≡ true
+      → Found call (AsksTruthBy (left whole) call.asked q h) → MustSucceed call
   -- `query-cert`
   pub cert_truth : (cut : Cut) (whole : Course) (q : QueryCert) (x : Identity) (ss : List Sighting)
-      (h : History) (parts : List SealedFields) → IsCutOf cut whole h parts → is_kept cut x ≡ true
-      → Found call (AsksCertBy (left whole) call.asked q x ss h parts) → Succeeds call
+      (h : History) → IsCutOf cut whole h → is_kept cut x ≡ true
+      → Found call (AsksCertBy (left whole) call.asked q x ss h) → Succeeds call
       → Prints call (told_line (left whole) x)
   pub cert_answered : (cut : Cut) (whole : Course) (q : QueryCert) (x : Identity) (ss : List Sighting)
-      (h : History) (parts : List SealedFields) → IsCutOf cut whole h parts → is_kept cut x ≡ true
-      → Found call (AsksCertBy (left whole) call.asked q x ss h parts) → MustSucceed call
+      (h : History) → IsCutOf cut whole h → is_kept cut x ≡ true
+      → Found call (AsksCertBy (left whole) call.asked q x ss h) → MustSucceed call
   -- `audit` by cut jobs: STORE, whoever built it, says the truth of the whole jobs of each kept certificate
   pub audited : (a : Audit) → Did call (commands.Audit a)
       → (parts : List SealedFields) × (jobs : List JobFields)

@@ -20,7 +20,8 @@ ghost use Rattle.universe_core.specs.Rebases.{ledger_cut, issuers_in, is_lasting
 ghost use Rattle.universe_core.specs.Step.{refusal, groups_after};
 ghost use Rattle.universe_core.specs.History.{seen, sightings};
 ghost use Rattle.publication_core.specs.Formats.{current};
-ghost use Rattle.publication_core.specs.Histories.{IsAdmissible, History, with_job, chain, IsHistory, releases_of, LeavesOut};
+ghost use Rattle.publication_core.specs.Histories.{Published, IsAdmissible, History, of_jobs, with_job, IsHistory};
+ghost use Rattle.publication_core.specs.Histories.{parts_of, releases_of, LeavesOut};
 ghost use Rattle.publication_core.specs.Building.{HaveBlocks};
 ghost use Rattle.publication_core.specs.Publishing.{PublicationFields, Publishes};
 ghost use Rattle.publication_core.specs.Rebasing.{BasePublicationFields, PublishesBase};
@@ -52,39 +53,38 @@ use store_core::{chains_grow, stores_are_read_back};
 /// published is.
 pub fn histories_are_made()
     ensures published { (command : Command) (files : Files)
-        (h : History) (parts : List SealedFields) (job : JobFields) (d : Done)
-        → IsHistory h parts → AsksToContinue command h parts job files
+        (h : History) (job : JobFields) (d : Done)
+        → IsHistory h → AsksToContinue command h job files
         → Makes command (held_by command files) (Ok d)
-        → (made : PublicationFields) × Continues h parts job made × (d ≡ done_by command made) }
+        → (made : PublicationFields) × Continues h job made × (d ≡ done_by command made) }
     ensures admitted { (command : Command) (files : Files)
-        (h : History) (parts : List SealedFields) (job : JobFields) (o : Result Done NamedFault)
-        → IsHistory h parts → AsksToContinue command h parts job files → IsAdmissible (releases_of h parts) (in_format current job)
+        (h : History) (job : JobFields) (o : Result Done NamedFault)
+        → IsHistory h → AsksToContinue command h job files → IsAdmissible (releases_of h) (in_format current job)
         → Makes command (held_by command files) o → (d : Done) × (o ≡ Ok d) }
     ensures stored { (command : Command) (files : Files)
         (h : History) (parts : List SealedFields) (s : SealedFields) (o : Result Done NamedFault)
-        → IsHistory h (parts ++ s ∷ []) → AsksToStore command parts s files
+        → IsHistory h → parts_of h ≡ parts ++ s ∷ [] → AsksToStore command parts s files
         → Makes command (held_by command files) o → (d : Done) × (o ≡ Ok d) × Stored command parts s d }
     ensures told { (command : Command) (files : Files) (q : StoreQuery)
-        (h : History) (parts : List SealedFields) (o : Result Done NamedFault)
-        → IsHistory h parts → AsksStore command q h parts files
-        → Makes command (held_by command files) o → o ≡ Ok (query_done q parts) }
+        (h : History) (o : Result Done NamedFault)
+        → IsHistory h → AsksStore command q h files
+        → Makes command (held_by command files) o → o ≡ Ok (query_done q (parts_of h)) }
     ensures asked { (command : Command) (files : Files) (q : StoreQuery)
-        (h : History) (parts : List SealedFields) (o : Result Done NamedFault)
-        → IsHistory h parts → AsksTruth command q h parts files
-        → Makes command (held_by command files) o → o ≡ Ok (truth_done h parts q) }
+        (h : History) (o : Result Done NamedFault)
+        → IsHistory h → AsksTruth command q h files
+        → Makes command (held_by command files) o → o ≡ Ok (truth_done h q) }
     ensures certified { (command : Command) (files : Files) (q : QueryCert) (x : Identity) (ss : List Sighting)
-        (h : History) (parts : List SealedFields) (o : Result Done NamedFault)
-        → IsHistory h parts → AsksCertTruth command q x ss h parts files
-        → Makes command (held_by command files) o → o ≡ Ok (only (cert_truth_line h parts x)) }
+        (h : History) (o : Result Done NamedFault)
+        → IsHistory h → AsksCertTruth command q x ss h files
+        → Makes command (held_by command files) o → o ≡ Ok (only (cert_truth_line h x)) }
     ensures rehearsed { (command : Command) (files : Files) (r : Rehearse) (d : Done)
         → command ≡ Command.Rehearse r → Makes command (held_by command files) (Ok d)
-        → (queries : List Query) × (jobs : List JobFields) × (parts : List SealedFields)
-        × AsksToRehearse command queries jobs files × IsRehearsed queries jobs parts
-        × (d ≡ rehearsed queries jobs parts) }
+        → (queries : List Query) × (jobs : List Published)
+        × AsksToRehearse command queries jobs files × IsRehearsed queries jobs × (d ≡ rehearsed queries jobs) }
     ensures followed { (command : Command) (files : Files) (queries : List Query)
-        (jobs : List JobFields) (parts : List SealedFields) (o : Result Done NamedFault)
-        → IsHistory (chain jobs) parts → AsksToRehearse command queries jobs files
-        → Makes command (held_by command files) o → o ≡ Ok (rehearsed queries jobs parts) }
+        (jobs : List Published) (o : Result Done NamedFault)
+        → IsHistory (of_jobs jobs) → AsksToRehearse command queries jobs files
+        → Makes command (held_by command files) o → o ≡ Ok (rehearsed queries jobs) }
     ensures publishable { (before : LedgerFields) (job : JobFields) → refusal PUBLISHED before job ≡ None
         → HaveBlocks current (groups_after before (facts_of job)) → (made : PublicationFields) × Publishes before job (Ok made) }
 {
@@ -108,29 +108,29 @@ pub fn histories_are_made()
 /// (`comes_back`).
 pub fn bases_are_made()
     ensures rebased { (command : Command) (files : Files) (r : Rebase)
-        (h : History) (parts : List SealedFields) (d : Done)
-        → IsHistory h parts → AsksToRebase command r h parts files
+        (h : History) (d : Done)
+        → IsHistory h → AsksToRebase command r h files
         → Makes command (held_by command files) (Ok d)
-        → (made : BasePublicationFields) × BeginsAnew h parts r.moment (cut_without r.left) made × (d ≡ base_done r made) }
+        → (made : BasePublicationFields) × BeginsAnew h r.moment (cut_without r.left) made × (d ≡ base_done r made) }
     ensures rebasable { (command : Command) (files : Files) (r : Rebase)
-        (h : History) (parts : List SealedFields) (o : Result Done NamedFault)
-        → IsHistory h parts → AsksToRebase command r h parts files → IsRebasableCut r.moment (cut_without r.left) h parts
+        (h : History) (o : Result Done NamedFault)
+        → IsHistory h → AsksToRebase command r h files → IsRebasableCut r.moment (cut_without r.left) h
         → Makes command (held_by command files) o → (d : Done) × (o ≡ Ok d) }
-    ensures kept { (h : History) (parts : List SealedFields) (moment : ℕ) (cut : Cut) (s : SealedFields)
-        (q : StoreQuery) → IsKept moment (releases_of h parts) q.id → is_kept cut q.id ≡ true
-        → (sightings q.id (seen (releases_of (base_of h parts moment cut) (s ∷ []))) ≡ sightings q.id (seen (releases_of h parts)))
-        × (truth_line (base_of h parts moment cut) (s ∷ []) q ≡ truth_line h parts q) }
+    ensures kept { (h : History) (moment : ℕ) (cut : Cut) (s : SealedFields)
+        (q : StoreQuery) → IsKept moment (releases_of h) q.id → is_kept cut q.id ≡ true
+        → (sightings q.id (seen (releases_of (base_of h moment cut s))) ≡ sightings q.id (seen (releases_of h)))
+        × (truth_line (base_of h moment cut s) q ≡ truth_line h q) }
     ensures asked { (command : Command) (files : Files) (q : StoreQuery)
-        (h : History) (parts : List SealedFields) (moment : ℕ) (cut : Cut) (s : SealedFields) (o : Result Done NamedFault)
-        → IsHistory (base_of h parts moment cut) (s ∷ []) → AsksTheBase command q h parts moment cut s files
-        → Makes command (held_by command files) o → o ≡ Ok (truth_done h parts q) }
+        (h : History) (moment : ℕ) (cut : Cut) (s : SealedFields) (o : Result Done NamedFault)
+        → IsHistory (base_of h moment cut s) → AsksTheBase command q h moment cut s files
+        → Makes command (held_by command files) o → o ≡ Ok (truth_done h q) }
     ensures left_out { (command : Command) (files : Files) (q : StoreQuery)
-        (h : History) (parts : List SealedFields) (o : Result Done NamedFault)
-        → IsHistory h parts → AsksOfLeftOut command q h parts files
+        (h : History) (o : Result Done NamedFault)
+        → IsHistory h → AsksOfLeftOut command q h files
         → Makes command (held_by command files) o → o ≡ Ok (only (line (verdict_word NotEnrolled))) }
-    ensures comes_back { (h : History) (parts : List SealedFields) (job : JobFields) (s : SealedFields) (e : Entry)
-        → IsHistory h parts → LeavesOut h e.id.issuer → Brings job e
-        → Among (seen (releases_of (with_job h (in_format current job)) (parts ++ s ∷ []))) e }
+    ensures comes_back { (h : History) (job : JobFields) (s : SealedFields) (e : Entry)
+        → IsHistory h → LeavesOut h e.id.issuer → Brings job e
+        → Among (seen (releases_of (with_job h (in_format current job) s))) e }
     ensures publishable { (before : LedgerFields) (moment : ℕ) (cut : Cut)
         → length (issuers_in (ledger_cut cut before).parts) ≤ MAX_ISSUERS
         → HaveBlocks dated (rebased_groups (is_lasting moment) (ledger_cut cut before))

@@ -1,5 +1,5 @@
 -- Something comes of each command, whatever its files hold.
-use Rattle.std.proofs.Common.{◌≡◌, ◌≢◌, ◌≤◌, ℕ, suc, inl, inr, List, [], ◌∷◌, ◌++◌, map, length, Option, Some, None, Result, Ok, Err, refl, sym, ap, subst, arith}
+use Rattle.std.proofs.Common.{◌≡◌, ◌≢◌, ◌≤◌, ℕ, suc, inl, inr, List, [], ◌∷◌, ◌++◌, map, length, Option, Some, None, Result, Ok, Err, refl, ap, arith}
 use Rattle.std.specs.List.{All}
 use Rattle.std.specs.Prelude.{IsOk}
 use Rattle.std.proofs.lemmas.List.Elements.{All-nil, All-cons, All-head, All-tail}
@@ -18,7 +18,7 @@ use Rattle.universe_core.specs.Formats.{in_format}
 use Rattle.universe_core.specs.Ledgers.{no_ledger, ledger_of}
 use Rattle.publication_core.specs.declared.fault.PublishFault.{PublishFault}
 use Rattle.publication_core.specs.Formats.{current}
-use Rattle.publication_core.specs.Histories.{History, with_job, chain, IsHistory, releases_of}
+use Rattle.publication_core.specs.Histories.{Published, History, of_jobs, with_job, IsHistory, releases_of}
 use Rattle.publication_core.specs.Publishing.{PublicationFields, Publishes}
 use Rattle.publication_core.specs.declared.base_fault.BaseFault.{BaseFault}
 use Rattle.publication_core.specs.Rebasing.{BasePublicationFields, PublishesBase}
@@ -46,7 +46,6 @@ use Rattle.command_core.specs.Rebasings.{cut_without, rebased_as, MakesRebase}
 use Rattle.command_core.specs.Steps.{RehearsesOn}
 use Rattle.command_core.specs.Replies.{usage, reply_of, IsReplyOver, IsOctets, AreOctets}
 use Rattle.command_core.proofs.AuditsMade.{AreAccepted, audit_jobs_are}
-use Rattle.command_core.proofs.Chains.{chain_push}
 use Rattle.command_core.proofs.Prefixes.{first_of}
 
 -- a job that is read under a name
@@ -61,8 +60,8 @@ pub record Existence : Type 0 where
   pub rebases : (ledger : LedgerFields) (moment : ℕ) (cut : Cut) → (o : Result BasePublicationFields BaseFault) × PublishesBase ledger moment cut o
   pub fits : (limits : Limits) (bytes : List ℕ) (job : JobFields) → IsBytes bytes → limits.ranges ≤ 1024 → job_of limits bytes ≡ Ok job → FitsFields job
   pub within : (limits : Limits) (bytes : List ℕ) (job : JobFields) → IsBytes bytes → job_of limits bytes ≡ Ok job → IsWithinLimits limits job
-  pub next : (h : History) (parts : List SealedFields) (job : JobFields) (p : PublicationFields) → IsHistory h parts → FitsPublishing job → IsWithinLimits PUBLISHED job
-      → Publishes (ledger_of (releases_of h parts)) job (Ok p) → IsHistory (with_job h (in_format current job)) (parts ++ p.sealed ∷ [])
+  pub next : (h : History) (job : JobFields) (p : PublicationFields) → IsHistory h → FitsPublishing job → IsWithinLimits PUBLISHED job
+      → Publishes (ledger_of (releases_of h)) job (Ok p) → IsHistory (with_job h (in_format current job) p.sealed)
   pub found : (parts : List PartFields) (jobs : List JobFields) → length jobs ≤ 64 → All IsAuditable jobs → entries_of jobs ≤ 4194304
       → (r : Result Audited AuditFault) × IsFound parts jobs r × (r ≢ Err NoMemory)
 
@@ -101,45 +100,44 @@ module _ (layers : Existence) where
 
   -- ---- rehearsing
 
-  abbrev On : List Query → List JobFields → List SealedFields → List (List ℕ) → Inputs → Type 0
-  On queries jobs parts names inputs = (o : Result Done NamedFault) × RehearsesOn queries jobs parts names inputs o
+  abbrev On : List Query → List Published → List (List ℕ) → Inputs → Type 0
+  On queries ps names inputs = (o : Result Done NamedFault) × RehearsesOn queries ps names inputs o
+
+  -- what comes of the files behind one more job
+  abbrev OnAfter : List Query → List Published → List (List ℕ) → Inputs → Type 0
+  OnAfter queries ps names inputs = (p : Published) → IsHistory (of_jobs (ps ++ p ∷ [])) → On queries (ps ++ p ∷ []) names inputs
 
   -- a job that was read goes on, or is refused
-  job_on : (queries : List Query) (jobs : List JobFields) (parts : List SealedFields) (name : List ℕ) (names : List (List ℕ))
-      (at : Inputs) (job : JobFields) → input name job_in (at 0) ≡ Ok job → FitsFields job × IsWithinLimits PUBLISHED job → IsHistory (chain jobs) parts
-      → ((more : List SealedFields) → IsHistory (chain (jobs ++ job ∷ [])) more → On queries (jobs ++ job ∷ []) more names (rest_of at))
-      → (r : Result PublicationFields PublishFault) → Publishes (ledger_of (releases_of (chain jobs) parts)) job r → On queries jobs parts (name ∷ names) at
-  job_on queries jobs parts name names at job is facts is_history rest (Err fault) publishes =
+  job_on : (queries : List Query) (ps : List Published) (name : List ℕ) (names : List (List ℕ)) (at : Inputs) (job : JobFields) → input name job_in (at 0) ≡ Ok job
+      → FitsFields job × IsWithinLimits PUBLISHED job → IsHistory (of_jobs ps) → OnAfter queries ps names (rest_of at)
+      → (r : Result PublicationFields PublishFault) → Publishes (ledger_of (releases_of (of_jobs ps))) job r → On queries ps (name ∷ names) at
+  job_on queries ps name names at job is facts is_history rest (Err fault) publishes =
       let e : NamedFault = record { name = name; fault = of_publishing fault } in
       (Err e, inl (e, inr (job, fault, is, publishes, refl), refl))
-  job_on queries jobs parts name names at job is facts is_history rest (Ok p) publishes =
-      let more : List SealedFields = parts ++ p.sealed ∷ [] in
-      let next : IsHistory (with_job (chain jobs) (in_format current job)) more = layers.next (chain jobs) parts job p is_history facts.0.publishing facts.1 publishes in
-      let next_is : IsHistory (chain (jobs ++ job ∷ [])) more = subst (λ (h : History). IsHistory h more) (sym (chain_push jobs job)) next in
-      let o = rest more next_is in
-      (o.0, inr (job, more, is, facts.0, next_is, o.1))
+  job_on queries ps name names at job is facts is_history rest (Ok made) publishes =
+      let p : Published = record { job = in_format current job; sealed = made.sealed } in
+      let next : IsHistory (of_jobs (ps ++ p ∷ [])) = layers.next (of_jobs ps) job made is_history facts.0.publishing facts.1 publishes in
+      let o = rest p next in
+      (o.0, inr (p, (is, refl), facts.0, next, o.1))
 
-  file_on : (queries : List Query) (jobs : List JobFields) (parts : List SealedFields) (name : List ℕ) (names : List (List ℕ))
-      (at : Inputs) → AreOctets at → IsHistory (chain jobs) parts
-      → ((job : JobFields) (more : List SealedFields) → IsHistory (chain (jobs ++ job ∷ [])) more → On queries (jobs ++ job ∷ []) more names (rest_of at))
-      → (r : Result JobFields NamedFault) → input name job_in (at 0) ≡ r → On queries jobs parts (name ∷ names) at
-  file_on queries jobs parts name names at octets is_history rest (Err e) is = (Err e, inl (e, inl is, refl))
-  file_on queries jobs parts name names at octets is_history rest (Ok job) is =
-      let o = layers.something (ledger_of (releases_of (chain jobs) parts)) job in
-      job_on queries jobs parts name names at job is (job_fits name (at 0) job (octets 0) is) is_history (rest job) o.0 o.1
+  file_on : (queries : List Query) (ps : List Published) (name : List ℕ) (names : List (List ℕ)) (at : Inputs) → AreOctets at → IsHistory (of_jobs ps)
+      → OnAfter queries ps names (rest_of at) → (r : Result JobFields NamedFault) → input name job_in (at 0) ≡ r → On queries ps (name ∷ names) at
+  file_on queries ps name names at octets is_history rest (Err e) is = (Err e, inl (e, inl is, refl))
+  file_on queries ps name names at octets is_history rest (Ok job) is =
+      let o = layers.something (ledger_of (releases_of (of_jobs ps))) job in
+      job_on queries ps name names at job is (job_fits name (at 0) job (octets 0) is) is_history rest o.0 o.1
 
-  files_on : (queries : List Query) (jobs : List JobFields) (parts : List SealedFields) (names : List (List ℕ)) (at : Inputs)
-      → AreOctets at → IsHistory (chain jobs) parts → On queries jobs parts names at
-  files_on queries jobs parts [] at octets is_history = (Ok (rehearsed queries jobs parts), refl)
-  files_on queries jobs parts (name ∷ names) at octets is_history =
-      file_on queries jobs parts name names at octets is_history
-      (λ job more is_more. files_on queries (jobs ++ job ∷ []) more names (rest_of at) (λ i. octets (suc i)) is_more)
+  files_on : (queries : List Query) (ps : List Published) (names : List (List ℕ)) (at : Inputs) → AreOctets at → IsHistory (of_jobs ps) → On queries ps names at
+  files_on queries ps [] at octets is_history = (Ok (rehearsed queries ps), refl)
+  files_on queries ps (name ∷ names) at octets is_history =
+      file_on queries ps name names at octets is_history
+      (λ p is_more. files_on queries (ps ++ p ∷ []) names (rest_of at) (λ i. octets (suc i)) is_more)
       (input name job_in (at 0)) refl
 
   rehearsal_made : (r : Rehearse) (queries : Result (List Query) NamedFault) (at : Inputs)
       → AreOctets at → (o : Result Done NamedFault) × MakesRehearsal r queries at o
   rehearsal_made r (Ok queries) at octets =
-      let o = files_on queries [] [] r.jobs at octets tt in
+      let o = files_on queries [] r.jobs at octets tt in
       (o.0, first_of queries r.jobs at o.0 o.1)
   rehearsal_made r (Err e) at octets = (Err e, refl)
 

@@ -50,7 +50,7 @@ use Rattle.publication_core.specs.declared.base_fault.BaseFault.{BaseFault}
 use Rattle.publication_core.specs.declared.base_fault.BaseFault.TheVariants as bases
 use Rattle.publication_core.specs.Publishing.{PublicationFields}
 use Rattle.publication_core.specs.Rebasing.{BasePublicationFields}
-use Rattle.publication_core.specs.Histories.{History, chain}
+use Rattle.publication_core.specs.Histories.{Published, History, of_jobs}
 use Rattle.place_core.specs.declared.place.By.{By}
 use Rattle.word_core.specs.declared.command.Command.{Command}
 use Rattle.word_core.specs.declared.command.Command.TheVariants as commands
@@ -159,15 +159,15 @@ rebase_names b (Ok l) d m = based_names b m.result d m.is
 rebase_names b (Err e) d m = absurd (not_err d e m)
 
 -- a rehearsal writes no file
-rehearses_names : (queries : List Query) (jobs : List JobFields) (parts : List SealedFields) (names : List (List ℕ)) (inputs : Inputs)
-    (d : Done) → RehearsesOn queries jobs parts names inputs (Ok d)
+rehearses_names : (queries : List Query) (ps : List Published) (names : List (List ℕ)) (inputs : Inputs)
+    (d : Done) → RehearsesOn queries ps names inputs (Ok d)
     → names_of d.outputs ≡ []
-rehearses_names queries jobs parts [] inputs d m = ap (λ (e : Done). names_of e.outputs) (ok_same {E = NamedFault} d (rehearsed queries jobs parts) m)
-rehearses_names queries jobs parts (name ∷ names) inputs d (inl (e, refused, is)) = absurd (not_err d e is)
-rehearses_names queries jobs parts (name ∷ names) inputs d (inr (job, more, read, fits, is, rest)) = rehearses_names queries (jobs ++ job ∷ []) more names (rest_of inputs) d rest
+rehearses_names queries ps [] inputs d m = ap (λ (e : Done). names_of e.outputs) (ok_same {E = NamedFault} d (rehearsed queries ps) m)
+rehearses_names queries ps (name ∷ names) inputs d (inl (e, refused, is)) = absurd (not_err d e is)
+rehearses_names queries ps (name ∷ names) inputs d (inr (p, is_job, fits, is, rest)) = rehearses_names queries (ps ++ p ∷ []) names (rest_of inputs) d rest
 
 rehearsal_names : (r : Rehearse) (queries : Result (List Query) NamedFault) (inputs : Inputs) (d : Done) → MakesRehearsal r queries inputs (Ok d) → names_of d.outputs ≡ []
-rehearsal_names r (Ok queries) inputs d m = rehearses_names queries [] [] r.jobs inputs d (from_first queries r.jobs inputs (Ok d) m)
+rehearsal_names r (Ok queries) inputs d m = rehearses_names queries [] r.jobs inputs d (from_first queries r.jobs inputs (Ok d) m)
 rehearsal_names r (Err e) inputs d m = absurd (not_err d e m)
 
 longer_names : (source : Source) (head job : List ℕ) (names : List (List ℕ)) (given : Option (List ℕ)) (inputs : Inputs) (d : Done)
@@ -454,24 +454,24 @@ module _ (told : Option Files) (failed : Option (List ℕ) → Type 0) (e : Name
   delta_by t j l first second (inl h) = cause_of (t.job ∷ t.ledger ∷ []) t.job j (inl refl) first (input_unread t.job job_in j e job_read h u)
   delta_by t j l first second (inr h) = cause_of (t.job ∷ t.ledger ∷ []) t.ledger l (inr (inl refl)) second (input_unread t.ledger ledger_in l e ledger_read h u)
 
-  refused_by : (h : History) (parts : List SealedFields) (name : List ℕ) (given : Option (List ℕ)) (names : List (List ℕ))
-      → IsRead told failed name given → IsFileRefused h parts name given e → Cause (name ∷ names)
-  refused_by h parts name given names read (inl is) = cause_of (name ∷ names) name given (inl refl) read (input_unread name job_in given e job_read is u)
-  refused_by h parts name given names read (inr (job, fault, is, publishes, same)) = absurd (publish_fault_read fault (sym (ap (λ (k : NamedFault). k.fault) same) ∙ u))
+  refused_by : (h : History) (name : List ℕ) (given : Option (List ℕ)) (names : List (List ℕ))
+      → IsRead told failed name given → IsFileRefused h name given e → Cause (name ∷ names)
+  refused_by h name given names read (inl is) = cause_of (name ∷ names) name given (inl refl) read (input_unread name job_in given e job_read is u)
+  refused_by h name given names read (inr (job, fault, is, publishes, same)) = absurd (publish_fault_read fault (sym (ap (λ (k : NamedFault). k.fault) same) ∙ u))
 
-  rehearses_by : (queries : List Query) (jobs : List JobFields) (parts : List SealedFields) (names : List (List ℕ)) (inputs : Inputs) → AreRead told failed names inputs
-      → RehearsesOn queries jobs parts names inputs (Err e) → Cause names
-  rehearses_by queries jobs parts [] inputs read m = absurd (not_ok (rehearsed queries jobs parts) e m)
-  rehearses_by queries jobs parts (name ∷ names) inputs read (inl (f, refused, is)) =
-      refused_by (chain jobs) parts name (inputs 0) names read.0 (subst (IsFileRefused (chain jobs) parts name (inputs 0)) (sym (err_same {A = Done} e f is)) refused)
-  rehearses_by queries jobs parts (name ∷ names) inputs read (inr (job, more, is_read, fits, is, rest)) =
-      let c = rehearses_by queries (jobs ++ job ∷ []) more names (rest_of inputs) read.1 rest in (inr c.0, c.1)
+  rehearses_by : (queries : List Query) (ps : List Published) (names : List (List ℕ)) (inputs : Inputs) → AreRead told failed names inputs
+      → RehearsesOn queries ps names inputs (Err e) → Cause names
+  rehearses_by queries ps [] inputs read m = absurd (not_ok (rehearsed queries ps) e m)
+  rehearses_by queries ps (name ∷ names) inputs read (inl (f, refused, is)) =
+      refused_by (of_jobs ps) name (inputs 0) names read.0 (subst (IsFileRefused (of_jobs ps) name (inputs 0)) (sym (err_same {A = Done} e f is)) refused)
+  rehearses_by queries ps (name ∷ names) inputs read (inr (p, is_job, fits, is, rest)) =
+      let c = rehearses_by queries (ps ++ p ∷ []) names (rest_of inputs) read.1 rest in (inr c.0, c.1)
 
   rehearsal_by : (r : Rehearse) (given : Option (List ℕ)) (inputs : Inputs) (queries : Result (List Query) NamedFault)
       → IsRead told failed r.queries given → AreRead told failed r.jobs inputs
       → input r.queries queries_in given ≡ queries → MakesRehearsal r queries inputs (Err e) → Cause (r.queries ∷ r.jobs)
   rehearsal_by r given inputs (Ok queries) first others is m =
-      let c = rehearses_by queries [] [] r.jobs inputs others (from_first queries r.jobs inputs (Err e) m) in (inr c.0, c.1)
+      let c = rehearses_by queries [] r.jobs inputs others (from_first queries r.jobs inputs (Err e) m) in (inr c.0, c.1)
   rehearsal_by r given inputs (Err f) first others is m =
       cause_of (r.queries ∷ r.jobs) r.queries given (inl refl) first
       (input_unread r.queries queries_in given e queries_read (is ∙ ap (λ (k : NamedFault). Err k) (sym (err_same {A = Done} e f m))) u)

@@ -8,7 +8,7 @@ use Rattle.job_core.specs.JobFields.{JobFields}
 use Rattle.job_core.specs.JobLayout.{EntryText}
 use Rattle.ledger_core.specs.LedgerFields.{LedgerFields}
 use Rattle.part_text.specs.SealedFields.{SealedFields}
-use Rattle.publication_core.specs.Histories.{History, chain}
+use Rattle.publication_core.specs.Histories.{Published, History, of_jobs}
 use Rattle.word_core.specs.declared.command.{QueryCert.QueryCert, Delta.Delta, Install.Install, Rehearse.Rehearse}
 use Rattle.word_core.specs.declared.command.{Audit.Audit}
 use Rattle.input_core.specs.declared.fault.FileFault.{FileFault}
@@ -117,34 +117,33 @@ job_over : (files : Files) (failed : Option (List ℕ) → Type 0) (name : List 
 job_over files failed name given r seen read is =
     sym (one_over files failed name (λ g. r ≡ input name job_in g) given (λ h. seen (unread name) h refl) read (sym is))
 
-refused_over : (files : Files) (failed : Option (List ℕ) → Type 0) (h : History) (parts : List SealedFields) (name : List ℕ) (given : Option (List ℕ)) (e : NamedFault)
-    → (e.fault ≡ faults.Unread → ⊥) → IsRead (Some files) failed name given → IsFileRefused h parts name given e → IsFileRefused h parts name (get files name) e
-refused_over files failed h parts name given e seen read (inl is) =
+refused_over : (files : Files) (failed : Option (List ℕ) → Type 0) (h : History) (name : List ℕ) (given : Option (List ℕ)) (e : NamedFault)
+    → (e.fault ≡ faults.Unread → ⊥) → IsRead (Some files) failed name given → IsFileRefused h name given e → IsFileRefused h name (get files name) e
+refused_over files failed h name given e seen read (inl is) =
     inl (job_over files failed name given (Err e) (λ f k u. seen (ap (λ (n : NamedFault). n.fault) (err_same {A = JobFields} e f k) ∙ u)) read is)
-refused_over files failed h parts name given e seen read (inr (job, fault, is, not, same)) =
+refused_over files failed h name given e seen read (inr (job, fault, is, not, same)) =
     inr (job, fault, job_over files failed name given (Ok job) (λ f k u. not_err job f k) read is, not, same)
 
-rehearses_over : (files : Files) (failed : Option (List ℕ) → Type 0) (queries : List Query) (jobs : List JobFields) (parts : List SealedFields) (names : List (List ℕ))
+rehearses_over : (files : Files) (failed : Option (List ℕ) → Type 0) (queries : List Query) (ps : List Published) (names : List (List ℕ))
     (inputs : Inputs) (o : Result Done NamedFault) → IsSeen o
-    → AreRead (Some files) failed names inputs → RehearsesOn queries jobs parts names inputs o → RehearsesOn queries jobs parts names (held_under files names) o
-rehearses_over files failed queries jobs parts [] inputs o seen read m = m
-rehearses_over files failed queries jobs parts (name ∷ names) inputs o seen read (inl (e, refused, is)) =
-    inl (e, refused_over files failed (chain jobs) parts name (inputs 0) e (seen e is) read.0 refused, is)
-rehearses_over files failed queries jobs parts (name ∷ names) inputs o seen read (inr (job, more, is_job, fits, is_more, rest)) =
+    → AreRead (Some files) failed names inputs → RehearsesOn queries ps names inputs o → RehearsesOn queries ps names (held_under files names) o
+rehearses_over files failed queries ps [] inputs o seen read m = m
+rehearses_over files failed queries ps (name ∷ names) inputs o seen read (inl (e, refused, is)) =
+    inl (e, refused_over files failed (of_jobs ps) name (inputs 0) e (seen e is) read.0 refused, is)
+rehearses_over files failed queries ps (name ∷ names) inputs o seen read (inr (p, is_job, fits, is_more, rest)) =
     inr (
-      job,
-      more,
-      job_over files failed name (inputs 0) (Ok job) (λ f k u. not_err job f k) read.0 is_job,
+      p,
+      (job_over files failed name (inputs 0) (Ok p.job.job) (λ f k u. not_err p.job.job f k) read.0 is_job.0, is_job.1),
       fits,
       is_more,
-      rehearses_over files failed queries (jobs ++ job ∷ []) more names (rest_of inputs) o seen read.1 rest,
+      rehearses_over files failed queries (ps ++ p ∷ []) names (rest_of inputs) o seen read.1 rest,
     )
 
 pub rehearsal_over : (files : Files) (failed : Option (List ℕ) → Type 0) (r : Rehearse) (queries : Result (List Query) NamedFault)
     (inputs : Inputs) (o : Result Done NamedFault) → IsSeen o
     → AreRead (Some files) failed r.jobs inputs → MakesRehearsal r queries inputs o → MakesRehearsal r queries (held_under files r.jobs) o
 rehearsal_over files failed r (Ok queries) inputs o seen read m =
-    first_of queries r.jobs (held_under files r.jobs) o (rehearses_over files failed queries [] [] r.jobs inputs o seen read (from_first queries r.jobs inputs o m))
+    first_of queries r.jobs (held_under files r.jobs) o (rehearses_over files failed queries [] r.jobs inputs o seen read (from_first queries r.jobs inputs o m))
 rehearsal_over files failed r (Err e) inputs o seen read m = m
 
 -- a step between two others

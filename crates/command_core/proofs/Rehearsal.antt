@@ -1,8 +1,8 @@
 -- Jobs that are rehearsed file by file, and the reply of `rehearse`.
-use Rattle.std.proofs.Common.{◌≡◌, ℕ, ◌+◌, ◌<◌, ◌≤◌, inl, inr, List, [], ◌∷◌, ◌++◌, map, flat_map, drop, get_or, length, append_assoc, Option, None, Result, Ok}
-use Rattle.std.proofs.Common.{Err, IfOk, refl, sym, ap, ◌∙◌, subst, arith}
+use Rattle.std.proofs.Common.{◌≡◌, ℕ, ◌+◌, ◌<◌, ◌≤◌, inl, inr, List, [], ◌∷◌, ◌++◌, flat_map, drop, get_or, length, append_assoc, Option, None, Result, Ok}
+use Rattle.std.proofs.Common.{Err, IfOk, refl, sym, ap, ◌∙◌, subst}
 use Rattle.std.specs.Prelude.{IsErr}
-use Rattle.std.proofs.lemmas.List.{append-nil, length_push, drop_all}
+use Rattle.std.proofs.lemmas.List.{append-nil, drop_all}
 use Rattle.octets_core.specs.declared.memory.NoMemory.{NoMemory}
 use Rattle.outside_core.specs.declared.depot.Depot.{Ghosts}
 use Rattle.outside_core.specs.Effects.{OnlyReads}
@@ -12,7 +12,7 @@ use Rattle.part_text.specs.SealedFields.{SealedFields}
 use Rattle.job_core.specs.JobFields.{JobFields}
 use Rattle.universe_core.specs.Formats.{in_format}
 use Rattle.publication_core.specs.Formats.{current}
-use Rattle.publication_core.specs.Histories.{History, of_jobs, with_job, with_jobs, chain}
+use Rattle.publication_core.specs.Histories.{Published, History, of_jobs}
 use Rattle.publication_core.specs.Rehearsing.{RehearsalFields, IsOf}
 use Rattle.word_core.specs.declared.command.Command.TheVariants as commands
 use Rattle.word_core.specs.declared.command.Rehearse.{Rehearse}
@@ -32,88 +32,74 @@ use Rattle.outside_core.proofs.Effects.{WhichFailed-then}
 use Rattle.input_core.proofs.FilesRead.{later_read, none_failed, blamed_later}
 use Rattle.command_core.proofs.Fronts.{no_inputs, ahead, these, ahead_push, nothing, later_reads, some_reads, Front, no_front, from_place, is_among, front_more, read_on, front_all}
 use Rattle.command_core.proofs.Replying.{read_well, read_named, blames_file, says_wider, made}
-use Rattle.command_core.proofs.Chains.{chain_push}
 use Rattle.command_core.proofs.Prefixes.{first_of}
 
 -- ---- reports
 
-reports_more : (h : History) (before : List SealedFields) (jobs : List JobFields) (parts : List SealedFields) (job : JobFields) (s : SealedFields) → length jobs ≡ length parts
-    → reports h before (jobs ++ job ∷ []) (parts ++ s ∷ []) ≡ reports h before jobs parts ++ report_behind (with_jobs h (map (in_format current) jobs)) (before ++ parts) job
-reports_more h before [] [] job s same =
-    append-nil (report_behind h before job) ∙ ap (λ (ps : List SealedFields). report_behind h ps job) (sym (append-nil before))
-reports_more h before [] (t ∷ parts) job s same = absurd (omega (arith, same))
-reports_more h before (j ∷ jobs) [] job s same = absurd (omega (arith, same))
-reports_more h before (j ∷ jobs) (t ∷ parts) job s same =
-    let k : History = with_job h (in_format current j) in
-    let last : History = with_jobs k (map (in_format current) jobs) in
-    ap (λ (text : List ℕ). report_behind h before j ++ text) (reports_more k (before ++ t ∷ []) jobs parts job s (omega (arith, same)))
-    ∙ sym (append_assoc (report_behind h before j) (reports k (before ++ t ∷ []) jobs parts) (report_behind last ((before ++ t ∷ []) ++ parts) job))
-    ∙ ap (λ (ps : List SealedFields). (report_behind h before j ++ reports k (before ++ t ∷ []) jobs parts) ++ report_behind last ps job) (append_assoc before (t ∷ []) parts)
+reports_more : (before ps : List Published) (p : Published)
+    → reports (of_jobs before) (ps ++ p ∷ []) ≡ reports (of_jobs before) ps ++ report_behind (of_jobs (before ++ ps)) p.job.job
+reports_more before [] p =
+    append-nil (report_behind (of_jobs before) p.job.job) ∙ ap (λ (qs : List Published). report_behind (of_jobs qs) p.job.job) (sym (append-nil before))
+reports_more before (q ∷ ps) p =
+    let first : List ℕ = report_behind (of_jobs before) q.job.job in
+    let rest : List ℕ = reports (of_jobs (before ++ q ∷ [])) ps in
+    ap (λ (text : List ℕ). first ++ text) (reports_more (before ++ q ∷ []) ps p)
+    ∙ sym (append_assoc first rest (report_behind (of_jobs ((before ++ q ∷ []) ++ ps)) p.job.job))
+    ∙ ap (λ (qs : List Published). (first ++ rest) ++ report_behind (of_jobs qs) p.job.job) (append_assoc before (q ∷ []) ps)
 
 -- ---- the first files
 
 -- The first files were read as jobs of a history, and what comes of the rest behind it comes of all.
 pub record Gone (told : Option Files) (names : List (List ℕ)) (i : ℕ) (r : RehearsalFields) (text : List ℕ) : Type 0 where
   pub front : Front told names i
-  pub jobs : List JobFields
-  pub as_many : length jobs ≡ length r.parts
-  pub is_of : IsOf (chain jobs) r
-  pub lines : text ≡ reports (of_jobs []) [] jobs r.parts
-  pub next : (queries : List Query) (rest : Inputs) (o : Result Done NamedFault) → RehearsesOn queries jobs r.parts (drop i names) rest o
-      → RehearsesOn queries [] [] names (ahead front.inputs rest) o
+  pub jobs : List Published
+  pub is_of : IsOf (of_jobs jobs) r
+  pub lines : text ≡ reports (of_jobs []) jobs
+  pub next : (queries : List Query) (rest : Inputs) (o : Result Done NamedFault) → RehearsesOn queries jobs (drop i names) rest o
+      → RehearsesOn queries [] names (ahead front.inputs rest) o
 
 module _ (told : Option Files) (names : List (List ℕ)) where
-  pub none_gone : (r : RehearsalFields) (text : List ℕ) → r.parts ≡ [] → IsOf (of_jobs []) r → text ≡ [] → Gone told names 0 r text
-  none_gone r text none is_of empty = record {
-    front = no_front told names;
-    jobs = [];
-    as_many = ap (λ (ps : List SealedFields). length ps) (sym none);
-    is_of = is_of;
-    lines = empty ∙ ap (reports (of_jobs []) [] []) (sym none);
-    next = λ queries rest o m. subst (λ (ps : List SealedFields). RehearsesOn queries [] ps names rest o) none m;
-  }
+  pub none_gone : (r : RehearsalFields) (text : List ℕ) → IsOf (of_jobs []) r → text ≡ [] → Gone told names 0 r text
+  none_gone r text is_of empty = record { front = no_front told names; jobs = []; is_of = is_of; lines = empty; next = λ queries rest o m. m }
 
   -- the file at a place, behind the first ones
   module _ (here : Option (List ℕ) → Type 0) (mid : Option Files) (same : mid ≡ told) (i : ℕ) (name : List ℕ)
       (lt : i < length names) (is : name ≡ get_or names i name)
       (r : RehearsalFields) (text : List ℕ) (gone : Gone told names i r text) (g : Option (List ℕ)) (read : IsRead mid here name g) where
     next_of : (queries : List Query) (rest : Inputs) (o : Result Done NamedFault)
-        → RehearsesOn queries gone.jobs r.parts (name ∷ drop (i + 1) names) (ahead (g ∷ []) rest) o
-        → RehearsesOn queries [] [] names (ahead gone.front.inputs (ahead (g ∷ []) rest)) o
+        → RehearsesOn queries gone.jobs (name ∷ drop (i + 1) names) (ahead (g ∷ []) rest) o
+        → RehearsesOn queries [] names (ahead gone.front.inputs (ahead (g ∷ []) rest)) o
     next_of queries rest o m =
         gone.next queries (ahead (g ∷ []) rest) o
-        (subst (λ (ns : List (List ℕ)). RehearsesOn queries gone.jobs r.parts ns (ahead (g ∷ []) rest) o) (sym (from_place told names i name lt is)) m)
+        (subst (λ (ns : List (List ℕ)). RehearsesOn queries gone.jobs ns (ahead (g ∷ []) rest) o) (sym (from_place told names i name lt is)) m)
 
     -- a job was read of it
     job_was_read : (job : JobFields) → input name job_in g ≡ Ok job → IsRead told nothing name g
     job_was_read job gives =
         subst (λ (t : Option Files). IsRead t nothing name g) same (read_named mid here nothing name job_in g job gives read)
 
-    is_of_more : (after : RehearsalFields) (job : JobFields) → IsOf (with_job (chain gone.jobs) (in_format current job)) after → IsOf (chain (gone.jobs ++ job ∷ [])) after
-    is_of_more after job is_of = subst (λ (h : History). IsOf h after) (sym (chain_push gone.jobs job)) is_of
+    more_by : (after : RehearsalFields) (line : List ℕ) → AddsJob (of_jobs gone.jobs) (input name job_in g) after line → Gone told names (i + 1) after (text ++ line)
+    more_by after line a =
+        let p : Published = record { job = in_format current a.job; sealed = a.sealed } in
+        record {
+          front = front_more told names i name lt is gone.front g (job_was_read a.job a.is_read);
+          jobs = gone.jobs ++ p ∷ [];
+          is_of = a.is_of;
+          lines = ap (λ (t : List ℕ). t ++ line) gone.lines ∙ ap (λ (l : List ℕ). reports (of_jobs []) gone.jobs ++ l) a.report
+              ∙ sym (reports_more [] gone.jobs p);
+          next = λ queries rest o m.
+              subst (λ (gs : Inputs). RehearsesOn queries [] names gs o) (sym (ahead_push gone.front.inputs g rest))
+              (next_of queries rest o (inr (p, (a.is_read, refl), a.fits, a.is_of.is_history, m)));
+        }
 
-    more_by : (after : RehearsalFields) (line : List ℕ) → AddsJob (chain gone.jobs) r (input name job_in g) after line → Gone told names (i + 1) after (text ++ line)
-    more_by after line a = record {
-      front = front_more told names i name lt is gone.front g (job_was_read a.job a.is_read);
-      jobs = gone.jobs ++ a.job ∷ [];
-      as_many =
-          omega (arith, length_push gone.jobs a.job, gone.as_many, length_push r.parts a.sealed, ap (λ (ps : List SealedFields). length ps) a.parts);
-      is_of = is_of_more after a.job a.is_of;
-      lines = ap (λ (t : List ℕ). t ++ line) gone.lines ∙ ap (λ (l : List ℕ). reports (of_jobs []) [] gone.jobs r.parts ++ l) a.report
-          ∙ sym (reports_more (of_jobs []) [] gone.jobs r.parts a.job a.sealed gone.as_many) ∙ ap (reports (of_jobs []) [] (gone.jobs ++ a.job ∷ [])) (sym a.parts);
-      next = λ queries rest o m.
-          subst (λ (gs : Inputs). RehearsesOn queries [] [] names gs o) (sym (ahead_push gone.front.inputs g rest))
-          (next_of queries rest o (inr (a.job, after.parts, a.is_read, a.fits, (is_of_more after a.job a.is_of).is_history, m)));
-    }
-
-    pub gone_more : (after : RehearsalFields) (line : List ℕ) → ((h : History) → IsOf h r → AddsJob h r (input name job_in g) after line)
+    pub gone_more : (after : RehearsalFields) (line : List ℕ) → ((h : History) → IsOf h r → AddsJob h (input name job_in g) after line)
         → Gone told names (i + 1) after (text ++ line)
-    gone_more after line adds = more_by after line (adds (chain gone.jobs) gone.is_of)
+    gone_more after line adds = more_by after line (adds (of_jobs gone.jobs) gone.is_of)
 
     -- what is wrong with it is what is wrong with all
     pub gone_refused : {A : Type 0} (later : Option (List ℕ) → Type 0) (fault : FileFault) → ((which : Option (List ℕ)) → here which → later which)
         → IsBlamed {A = A} here name faults.Unread (Err fault)
-        → ((h : History) → IsOf h r → IsFileRefused h r.parts name g (record { name = name; fault = fault }))
+        → ((h : History) → IsOf h r → IsFileRefused h name g (record { name = name; fault = fault }))
         → IsRefusedFrom told later names (record { name = name; fault = fault })
     gone_refused {A} later fault wider blamed refused =
         let rest = some_reads told later (drop (i + 1) names) in
@@ -122,7 +108,7 @@ module _ (told : Option Files) (names : List (List ℕ)) where
           read = read_on told names i name lt is gone.front g later (later_read told mid here later name g same wider read) rest.0 rest.1;
           blames = blames_file {A = A} later names name fault (is_among told names i name lt is)
               (blamed_later {A = A} here later name faults.Unread (Err fault) wider blamed);
-          makes = λ queries. next_of queries rest.0 (Err (record { name = name; fault = fault })) (inl (record { name = name; fault = fault }, refused (chain gone.jobs) gone.is_of, refl));
+          makes = λ queries. next_of queries rest.0 (Err (record { name = name; fault = fault })) (inl (record { name = name; fault = fault }, refused (of_jobs gone.jobs) gone.is_of, refl));
         }
 
   -- all files are gone
@@ -133,9 +119,10 @@ module _ (told : Option Files) (names : List (List ℕ)) where
     read = front_all told names failed i le gone.front;
     none_failed = none;
     jobs = gone.jobs;
+    is_of = gone.is_of;
     lines = gone.lines;
-    makes = λ queries. gone.next queries no_inputs (Ok (rehearsed queries gone.jobs r.parts))
-        (subst (λ (ns : List (List ℕ)). RehearsesOn queries gone.jobs r.parts ns no_inputs (Ok (rehearsed queries gone.jobs r.parts))) (sym (drop_all i names le)) refl);
+    makes = λ queries. gone.next queries no_inputs (Ok (rehearsed queries gone.jobs))
+        (subst (λ (ns : List (List ℕ)). RehearsesOn queries gone.jobs ns no_inputs (Ok (rehearsed queries gone.jobs))) (sym (drop_all i names le)) refl);
   }
 
 -- ---- the reply
@@ -151,7 +138,7 @@ module _ {D : Type 0} (d : Ghosts D) (old mid new : D) (reads_ : OnlyReads d old
   abbrev All : Option (List ℕ) → Type 0
   All = WhichFailed d old new
 
-  step : (queries : List Query) (g : Option (List ℕ)) (inputs : Inputs) (o : Result Done NamedFault) → input_as queries_in g ≡ Ok queries → RehearsesOn queries [] [] r.jobs inputs o
+  step : (queries : List Query) (g : Option (List ℕ)) (inputs : Inputs) (o : Result Done NamedFault) → input_as queries_in g ≡ Ok queries → RehearsesOn queries [] r.jobs inputs o
       → MakesRehearsal r (input r.queries queries_in g) inputs o
   step queries g inputs o gives m = subst (λ (x : Result (List Query) FileFault). MakesRehearsal r (named r.queries x) inputs o) (sym gives) (first_of queries r.jobs inputs o m)
 
@@ -173,10 +160,11 @@ module _ {D : Type 0} (d : Ghosts D) (old mid new : D) (reads_ : OnlyReads d old
       → IsRehearsedFrom (d.files mid) Others r.jobs after text → all ≡ text ++ flat_map (verdict_line after.parts) (view x) → IfOk a (λ y. reply_fields y ≡ done (record { text = all; outputs = [] }))
       → IfOk a (λ y. IsReply (commands.Rehearse r) (d.files old) All (reply_fields y))
   rehearse_made a view x after text all (g, read, gives, blamed) f lines is =
-      let same_text : all ≡ (rehearsed (view x) f.jobs after.parts).text = lines ∙ ap (λ (t : List ℕ). t ++ flat_map (verdict_line after.parts) (view x)) f.lines in
+      let same_text : all ≡ (rehearsed (view x) f.jobs).text = lines ∙ ap (λ (t : List ℕ). t ++ flat_map (verdict_line after.parts) (view x)) f.lines
+      ∙ ap (λ (ss : List SealedFields). reports (of_jobs []) f.jobs ++ flat_map (verdict_line ss) (view x)) f.is_of.parts in
       let well = none_failed First r.queries faults.Unread x blamed in
-      made (commands.Rehearse r) (d.files old) All (ahead (g ∷ []) f.inputs) (Ok (rehearsed (view x) f.jobs after.parts)) a
+      made (commands.Rehearse r) (d.files old) All (ahead (g ∷ []) f.inputs) (Ok (rehearsed (view x) f.jobs)) a
       (read_well (d.files old) First All r.queries queries_in g (view x) gives read, later_reads (d.files old) (d.files mid) Others All r.jobs f.inputs reads_.same_files (WhichFailed-then d old mid new reads_ well) f.read)
       (inl (WhichFailed-then d old mid new reads_ well None f.none_failed))
-      (step (view x) g f.inputs (Ok (rehearsed (view x) f.jobs after.parts)) gives (f.makes (view x)))
+      (step (view x) g f.inputs (Ok (rehearsed (view x) f.jobs)) gives (f.makes (view x)))
       (subst (λ (t : List ℕ). IfOk a (λ y. reply_fields y ≡ done (record { text = t; outputs = [] }))) same_text is)

@@ -7,10 +7,11 @@ use Rattle.job_core.specs.JobFields.{JobFields}
 use Rattle.place_core.specs.Cuts.{Cut}
 use Rattle.ledger_core.specs.LedgerFields.{LedgerFields}
 use Rattle.universe_core.specs.Formats.{JobIn, in_format}
+use Rattle.universe_core.specs.History.{Release}
 use Rattle.universe_core.specs.Ledgers.{ledger_of}
 use Rattle.publication_core.specs.declared.fault.PublishFault.{PublishFault}
 use Rattle.publication_core.specs.Formats.{current}
-use Rattle.publication_core.specs.Histories.{IsAdmissible, History, with_jobs, chain, IsHistory, releases_of}
+use Rattle.publication_core.specs.Histories.{Published, IsPartOf, IsAdmissible, History, of_jobs, with_jobs, IsHistory, releases_of}
 use Rattle.publication_core.specs.Publishing.{PublicationFields, Publishes}
 use Rattle.publication_core.specs.declared.base_fault.BaseFault.{BaseFault}
 use Rattle.publication_core.specs.Rebasing.{BasePublicationFields, PublishesBase}
@@ -25,13 +26,13 @@ use Rattle.word_core.specs.declared.command.{Audit.Audit}
 use Rattle.command_core.specs.ReplyFields.{Done, NamedFault, ReplyFields}
 use Rattle.input_core.specs.Inputs.{Inputs, rest_of}
 use Rattle.input_core.specs.Readings.{queries_in, job_in, ledger_in, store_in}
-use Rattle.command_core.specs.Commands.{input, published_as, MakesPart, MakesSnapshot, MakesDelta, IsFileRefused, MakesRehearsal, Makes}
+use Rattle.command_core.specs.Commands.{input, published_as, MakesPart, MakesSnapshot, MakesDelta, IsFileRefused, IsJob, MakesRehearsal, Makes}
 use Rattle.command_core.specs.Audits.{audit_jobs, audited_as, MakesAudit}
 use Rattle.command_core.specs.Rebasings.{cut_without, rebased_as, MakesRebase}
 use Rattle.command_core.specs.Steps.{RehearsesOn}
 use Rattle.command_core.specs.Faults.{of_publishing}
 use Rattle.command_core.specs.Replies.{reply_of, IsReplyOver}
-use Rattle.command_core.proofs.Chains.{chain_front}
+use Rattle.publication_core.proofs.Fronts.{history_front}
 use Rattle.command_core.proofs.Prefixes.{from_first}
 
 -- One thing is published of a job behind a ledger.
@@ -47,11 +48,10 @@ OneBase = (ledger : LedgerFields) (moment : ℕ) (cut : Cut) (a b : Result BaseP
 -- published.
 pub record Publishing : Type 0 where
   pub one : OnePublication
-  pub front : (h : History) (j : JobIn) (others : List JobIn) (parts all : List SealedFields) → IsHistory h parts → IsHistory (with_jobs h (j ∷ others)) all
-      → IsAdmissible (releases_of h parts) j
-  pub parts : (h : History) (a b : List SealedFields) → IsHistory h a → IsHistory h b → a ≡ b
-  pub complete : (h : History) (parts : List SealedFields) (job : JobFields) → IsHistory h parts → IsAdmissible (releases_of h parts) (in_format current job)
-      → (p : PublicationFields) × Publishes (ledger_of (releases_of h parts)) job (Ok p)
+  pub front : (h : History) (p : Published) (others : List Published) → IsHistory (with_jobs h (p ∷ others)) → IsAdmissible (releases_of h) p.job
+  pub part : (rs : List Release) (j : JobIn) (a b : SealedFields) → IsPartOf rs j a → IsPartOf rs j b → a ≡ b
+  pub complete : (h : History) (job : JobFields) → IsHistory h → IsAdmissible (releases_of h) (in_format current job)
+      → (p : PublicationFields) × Publishes (ledger_of (releases_of h)) job (Ok p)
 
 -- An audit finds one thing.
 abbrev pub OneAudit : Type 0
@@ -80,14 +80,17 @@ module _ (publishing : Publishing) where
 
   -- ---- rehearsals
 
+  in_current : (j : JobIn) → j.format ≡ current → j ≡ in_format current j.job
+  in_current j e = λ i. record { format = e i; job = j.job }
+
   -- a job that isn't published doesn't follow
-  pub not_published : (jobs : List JobFields) (parts : List SealedFields) (job : JobFields) (others : List JobFields) (all : List SealedFields) (fault : PublishFault)
-      → IsHistory (chain jobs) parts → IsHistory (chain (jobs ++ job ∷ others)) all → Publishes (ledger_of (releases_of (chain jobs) parts)) job (Err fault) → ⊥
-  not_published jobs parts job others all fault is is_all not =
-      let may = publishing.front (chain jobs) (in_format current job) (map (in_format current) others) parts all is
-      (subst (λ (h : History). IsHistory h all) (chain_front jobs job others) is_all) in
-      let p = publishing.complete (chain jobs) parts job is may in
-      let h : ◌≡◌ {A = Result PublicationFields PublishFault} (Ok p.0) (Err fault) = one (ledger_of (releases_of (chain jobs) parts)) job (Ok p.0) (Err fault) p.1 not in cc
+  not_published : (ps : List Published) (p : Published) (others : List Published) (fault : PublishFault) → IsHistory (of_jobs ps) → p.job.format ≡ current
+      → IsHistory (of_jobs (ps ++ p ∷ others)) → Publishes (ledger_of (releases_of (of_jobs ps))) p.job.job (Err fault) → ⊥
+  not_published ps p others fault is format is_all not =
+      let rs : List Release = releases_of (of_jobs ps) in
+      let may = subst (IsAdmissible rs) (in_current p.job format) (publishing.front (of_jobs ps) p others is_all) in
+      let made = publishing.complete (of_jobs ps) p.job.job is may in
+      let h : ◌≡◌ {A = Result PublicationFields PublishFault} (Ok made.0) (Err fault) = one (ledger_of rs) p.job.job (Ok made.0) (Err fault) made.1 not in cc
 
   pub job_same : (x y : JobFields) (r : Result JobFields NamedFault) → r ≡ Ok x → r ≡ Ok y → x ≡ y
   job_same x y r h k = let g : ◌≡◌ {A = Result JobFields NamedFault} (Ok x) (Ok y) = sym h ∙ k in cc
@@ -101,48 +104,54 @@ module _ (publishing : Publishing) where
   publish_fault_same : (x y : PublishFault) → ◌≡◌ {A = Result PublicationFields PublishFault} (Err x) (Err y) → x ≡ y
   publish_fault_same x y h = cc
 
-  refused_same : (h : History) (parts : List SealedFields) (name : List ℕ) (given : Option (List ℕ)) (e f : NamedFault)
-      → IsFileRefused h parts name given e → IsFileRefused h parts name given f → e ≡ f
-  refused_same h parts name given e f (inl x) (inl y) = fault_same e f (input name job_in given) x y
-  refused_same h parts name given e f (inl x) (inr (job, fault, is, not, same)) = absurd (not_both job e (input name job_in given) is x)
-  refused_same h parts name given e f (inr (job, fault, is, not, same)) (inl y) = absurd (not_both job f (input name job_in given) is y)
-  refused_same h parts name given e f (inr (job, fault, is, not, same)) (inr (other, wrong, is_other, not_other, same_other)) =
+  refused_same : (h : History) (name : List ℕ) (given : Option (List ℕ)) (e f : NamedFault)
+      → IsFileRefused h name given e → IsFileRefused h name given f → e ≡ f
+  refused_same h name given e f (inl x) (inl y) = fault_same e f (input name job_in given) x y
+  refused_same h name given e f (inl x) (inr (job, fault, is, not, same)) = absurd (not_both job e (input name job_in given) is x)
+  refused_same h name given e f (inr (job, fault, is, not, same)) (inl y) = absurd (not_both job f (input name job_in given) is y)
+  refused_same h name given e f (inr (job, fault, is, not, same)) (inr (other, wrong, is_other, not_other, same_other)) =
       let j : job ≡ other = job_same job other (input name job_in given) is is_other in
       let w : fault ≡ wrong = publish_fault_same fault wrong
-      (one (ledger_of (releases_of h parts)) other (Err fault) (Err wrong)
-      (subst (λ (k : JobFields). Publishes (ledger_of (releases_of h parts)) k (Err fault)) j not) not_other) in
+      (one (ledger_of (releases_of h)) other (Err fault) (Err wrong)
+      (subst (λ (k : JobFields). Publishes (ledger_of (releases_of h)) k (Err fault)) j not) not_other) in
       same ∙ ap (λ (k : PublishFault). record { name = name; fault = of_publishing k }) w ∙ sym same_other
 
-  pub refused_follows : (jobs : List JobFields) (parts : List SealedFields) (name : List ℕ) (given : Option (List ℕ)) (e : NamedFault) (job : JobFields)
-      (others : List JobFields) (all : List SealedFields)
-      → IsHistory (chain jobs) parts → input name job_in given ≡ Ok job → IsHistory (chain (jobs ++ job ∷ others)) all → IsFileRefused (chain jobs) parts name given e → ⊥
-  refused_follows jobs parts name given e job others all is is_job is_all (inl h) = not_both job e (input name job_in given) is_job h
-  refused_follows jobs parts name given e job others all is is_job is_all (inr (other, fault, is_other, not, same)) =
-      not_published jobs parts job others all fault is is_all
-      (subst (λ (k : JobFields). Publishes (ledger_of (releases_of (chain jobs) parts)) k (Err fault)) (job_same other job (input name job_in given) is_other is_job) not)
+  pub refused_follows : (ps : List Published) (name : List ℕ) (given : Option (List ℕ)) (e : NamedFault) (p : Published) (others : List Published)
+      → IsHistory (of_jobs ps) → IsJob name given p → IsHistory (of_jobs (ps ++ p ∷ others)) → IsFileRefused (of_jobs ps) name given e → ⊥
+  refused_follows ps name given e p others is is_job is_all (inl h) = not_both p.job.job e (input name job_in given) is_job.0 h
+  refused_follows ps name given e p others is is_job is_all (inr (other, fault, is_other, not, same)) =
+      not_published ps p others fault is is_job.1 is_all
+      (subst (λ (k : JobFields). Publishes (ledger_of (releases_of (of_jobs ps))) k (Err fault)) (job_same other p.job.job (input name job_in given) is_other is_job.0) not)
 
-  rehearses_unique : (queries : List Query) (jobs : List JobFields) (parts : List SealedFields) (names : List (List ℕ)) (inputs : Inputs)
-      (a b : Result Done NamedFault) → IsHistory (chain jobs) parts
-      → RehearsesOn queries jobs parts names inputs a → RehearsesOn queries jobs parts names inputs b → a ≡ b
-  rehearses_unique queries jobs parts [] inputs a b is x y = x ∙ sym y
-  rehearses_unique queries jobs parts (name ∷ names) inputs a b is (inl (e, refused, x)) (inl (f, refused_too, y)) =
-      x ∙ ap (λ (k : NamedFault). Err k) (refused_same (chain jobs) parts name (inputs 0) e f refused refused_too) ∙ sym y
-  rehearses_unique queries jobs parts (name ∷ names) inputs a b is (inl (e, refused, x)) (inr (job, more, is_job, fits, is_more, rest)) =
-      absurd (refused_follows jobs parts name (inputs 0) e job [] more is is_job is_more refused)
-  rehearses_unique queries jobs parts (name ∷ names) inputs a b is (inr (job, more, is_job, fits, is_more, rest)) (inl (e, refused, y)) =
-      absurd (refused_follows jobs parts name (inputs 0) e job [] more is is_job is_more refused)
-  rehearses_unique queries jobs parts (name ∷ names) inputs a b is (inr (job, more, is_job, fits, is_more, rest)) (inr (other, more_other, is_other, fits_other, is_more_other, rest_other)) =
-      let j : other ≡ job = job_same other job (input name job_in (inputs 0)) is_other is_job in
-      let m : more_other ≡ more = publishing.parts (chain (jobs ++ job ∷ [])) more_other more
-      (subst (λ (k : JobFields). IsHistory (chain (jobs ++ k ∷ [])) more_other) j is_more_other) is_more in
-      rehearses_unique queries (jobs ++ job ∷ []) more names (rest_of inputs) a b is_more rest
-      (subst (λ (ps : List SealedFields). RehearsesOn queries (jobs ++ job ∷ []) ps names (rest_of inputs) b) m
-      (subst (λ (k : JobFields). RehearsesOn queries (jobs ++ k ∷ []) more_other names (rest_of inputs) b) j rest_other))
+  -- two members that are read of the same file have the same part
+  pub member_same : (ps : List Published) (name : List ℕ) (given : Option (List ℕ)) (p q : Published) → IsJob name given p → IsJob name given q
+      → IsHistory (of_jobs (ps ++ p ∷ [])) → IsHistory (of_jobs (ps ++ q ∷ [])) → p ≡ q
+  member_same ps name given p q x y is is_other =
+      let rs : List Release = releases_of (of_jobs ps) in
+      let read : p.job.job ≡ q.job.job = job_same p.job.job q.job.job (input name job_in given) x.0 y.0 in
+      let jobs : p.job ≡ q.job = λ i. record { format = (x.1 ∙ sym y.1) i; job = read i } in
+      let sealed : p.sealed ≡ q.sealed = publishing.part rs q.job p.sealed q.sealed
+      (subst (λ (j : JobIn). IsPartOf rs j p.sealed) jobs (history_front (of_jobs ps) (p ∷ []) is).1.1) (history_front (of_jobs ps) (q ∷ []) is_other).1.1 in
+      λ i. record { job = jobs i; sealed = sealed i }
+
+  rehearses_unique : (queries : List Query) (ps : List Published) (names : List (List ℕ)) (inputs : Inputs)
+      (a b : Result Done NamedFault) → IsHistory (of_jobs ps) → RehearsesOn queries ps names inputs a → RehearsesOn queries ps names inputs b → a ≡ b
+  rehearses_unique queries ps [] inputs a b is x y = x ∙ sym y
+  rehearses_unique queries ps (name ∷ names) inputs a b is (inl (e, refused, x)) (inl (f, refused_too, y)) =
+      x ∙ ap (λ (k : NamedFault). Err k) (refused_same (of_jobs ps) name (inputs 0) e f refused refused_too) ∙ sym y
+  rehearses_unique queries ps (name ∷ names) inputs a b is (inl (e, refused, x)) (inr (p, is_job, fits, is_more, rest)) =
+      absurd (refused_follows ps name (inputs 0) e p [] is is_job is_more refused)
+  rehearses_unique queries ps (name ∷ names) inputs a b is (inr (p, is_job, fits, is_more, rest)) (inl (e, refused, y)) =
+      absurd (refused_follows ps name (inputs 0) e p [] is is_job is_more refused)
+  rehearses_unique queries ps (name ∷ names) inputs a b is (inr (p, is_job, fits, is_more, rest)) (inr (q, is_other, fits_other, is_more_other, rest_other)) =
+      rehearses_unique queries (ps ++ p ∷ []) names (rest_of inputs) a b is_more rest
+      (subst (λ (r : Published). RehearsesOn queries (ps ++ r ∷ []) names (rest_of inputs) b)
+      (member_same ps name (inputs 0) q p is_other is_job is_more_other is_more) rest_other)
 
   rehearsal_unique : (r : Rehearse) (queries : Result (List Query) NamedFault) (inputs : Inputs) (a b : Result Done NamedFault)
       → MakesRehearsal r queries inputs a → MakesRehearsal r queries inputs b
       → a ≡ b
-  rehearsal_unique r (Ok queries) inputs a b x y = rehearses_unique queries [] [] r.jobs inputs a b tt (from_first queries r.jobs inputs a x) (from_first queries r.jobs inputs b y)
+  rehearsal_unique r (Ok queries) inputs a b x y = rehearses_unique queries [] r.jobs inputs a b tt (from_first queries r.jobs inputs a x) (from_first queries r.jobs inputs b y)
   rehearsal_unique r (Err e) inputs a b x y = x ∙ sym y
 
   -- ---- audits

@@ -11,7 +11,6 @@ use Rattle.job_core.specs.declared.bounds.TheConstants.Limits as limits
 use Rattle.job_core.specs.JobFields.{JobFields}
 use Rattle.job_core.specs.Fitting.{FitsFields, IsWithinLimits}
 use Rattle.ledger_core.specs.LedgerFields.{LedgerFields}
-use Rattle.universe_core.specs.Formats.{in_format}
 use Rattle.universe_core.specs.Jobs.{facts_of}
 use Rattle.universe_core.specs.History.{past_of}
 use Rattle.universe_core.specs.Counting.{counts}
@@ -24,7 +23,7 @@ use Rattle.card_core.specs.Verdict.{verdict}
 use Rattle.publication_core.specs.declared.fault.PublishFault.{PublishFault}
 use Rattle.publication_core.specs.Publishing.{PublicationFields, Publishes}
 use Rattle.publication_core.specs.Formats.{current}
-use Rattle.publication_core.specs.Histories.{History, of_jobs, members, with_job, chain, IsHistory, releases_of}
+use Rattle.publication_core.specs.Histories.{Published, History, of_jobs, members, with_jobs, IsHistory, releases_of}
 use Rattle.place_core.specs.Places.{place_in}
 use Rattle.word_core.specs.declared.command.Command.{Command}
 use Rattle.word_core.specs.declared.command.Command.TheVariants as commands
@@ -165,31 +164,29 @@ MakesDelta d (Err e) l o = o ≡ Err e
 -- ---- rehearsing
 
 -- the report of a job behind a history
-abbrev pub report_behind : History → List SealedFields → JobFields → List ℕ
-report_behind h parts job = report_line job.epoch (members h) (counts (past_of (releases_of h parts)) (facts_of job))
+abbrev pub report_behind : History → JobFields → List ℕ
+report_behind h job = report_line job.epoch (members h) (counts (past_of (releases_of h)) (facts_of job))
 
--- the reports of the jobs with these parts, behind a history with its parts
-abbrev pub reports : (h : History) (before : List SealedFields) → List JobFields → List SealedFields → List ℕ
-reports h before (job ∷ jobs) (s ∷ parts) =
-    report_behind h before job ++ reports (with_job h (in_format current job)) (before ++ s ∷ []) jobs parts
--- as many parts as jobs: of others there is no report
-reports h before jobs parts = []
+-- the reports of the jobs, behind a history
+abbrev pub reports : History → List Published → List ℕ
+reports h [] = []
+reports h (p ∷ ps) = report_behind h p.job.job ++ reports (with_jobs h (p ∷ [])) ps
 
 -- what the parts say of the certificate of a query
 abbrev pub verdict_line : List SealedFields → Query → List ℕ
 verdict_line parts q = line (verdict_word (verdict (map (λ s. s.part) parts) q.identity q.sightings))
 
 -- the report of each job of a history, and then the verdict of its parts on each query; no file is written
-abbrev pub rehearsed : List Query → List JobFields → List SealedFields → Done
-rehearsed queries jobs parts = only (reports (of_jobs []) [] jobs parts ++ flat_map (verdict_line parts) queries)
+abbrev pub rehearsed : List Query → List Published → Done
+rehearsed queries ps = only (reports (of_jobs []) ps ++ flat_map (verdict_line (map (λ p. p.sealed) ps)) queries)
 
 -- what is wrong with the file of a job that doesn't follow a history: it isn't read as a job, or the job isn't
 -- published
-abbrev pub IsFileRefused : History → List SealedFields → List ℕ → Option (List ℕ) → NamedFault → Type 0
-IsFileRefused h parts name given e =
+abbrev pub IsFileRefused : History → List ℕ → Option (List ℕ) → NamedFault → Type 0
+IsFileRefused h name given e =
     (input name job_in given ≡ Err e)
     ⊎ ((job : JobFields) × (fault : PublishFault) × (input name job_in given ≡ Ok job)
-    × Publishes (ledger_of (releases_of h parts)) job (Err fault)
+    × Publishes (ledger_of (releases_of h)) job (Err fault)
     × (e ≡ record { name = name; fault = of_publishing fault }))
 
 -- the inputs of these names were read as these jobs
@@ -200,21 +197,31 @@ AreJobs (name ∷ names) inputs (job ∷ jobs) =
 -- as many jobs as names: others aren't
 AreJobs names inputs jobs = ⊥
 
+-- the input of this name was read as this job, in the current format
+abbrev pub IsJob : List ℕ → Option (List ℕ) → Published → Type 0
+IsJob name given p = (input name job_in given ≡ Ok p.job.job) × (p.job.format ≡ current)
+
+-- the inputs of these names were read as these jobs
+abbrev pub AreRehearsed : List (List ℕ) → Inputs → List Published → Type 0
+AreRehearsed [] inputs [] = Unit {0}
+AreRehearsed (name ∷ names) inputs (p ∷ ps) = IsJob name (inputs 0) p × AreRehearsed names (rest_of inputs) ps
+-- as many jobs as names: others aren't
+AreRehearsed names inputs ps = ⊥
+
 -- What comes of files that are rehearsed. The first n of them hold the jobs of a history. Either these are all, and the
 -- parts of the history are asked the queries; or the next file doesn't follow it, and that is what is wrong.
 pub record Rehearses
     (queries : List Query) (names : List (List ℕ)) (inputs : Inputs) (o : Result Done NamedFault)
     : Type 0 where
   pub n : ℕ
-  pub jobs : List JobFields
-  pub parts : List SealedFields
-  pub hold : AreJobs (take n names) inputs jobs
+  pub jobs : List Published
+  pub hold : AreRehearsed (take n names) inputs jobs
   -- keys, serials and times fit their fields
-  pub fit : All FitsFields jobs
-  pub is_history : IsHistory (chain jobs) parts
-  pub then : ((n ≡ length names) × (o ≡ Ok (rehearsed queries jobs parts)))
+  pub fit : All (λ p. FitsFields p.job.job) jobs
+  pub is_history : IsHistory (of_jobs jobs)
+  pub then : ((n ≡ length names) × (o ≡ Ok (rehearsed queries jobs)))
       ⊎ ((name : List ℕ) × (e : NamedFault) × (slice_get names n ≡ Some name)
-      × IsFileRefused (chain jobs) parts name (inputs n) e × (o ≡ Err e))
+      × IsFileRefused (of_jobs jobs) name (inputs n) e × (o ≡ Err e))
 
 abbrev pub MakesRehearsal : Rehearse → Result (List Query) NamedFault → Inputs → Result Done NamedFault → Type 0
 MakesRehearsal r (Ok queries) inputs o = Rehearses queries r.jobs inputs o

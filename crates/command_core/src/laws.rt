@@ -65,5 +65,5 @@ pub fn workers_are_free()
 pub fn rehearsals_go_file_by_file()
     ensures { (queries : List Query) (names : List (List ℕ)) (inputs : Inputs)
         (o : Result Done NamedFault)
-        → Rehearses queries names inputs o ↔ RehearsesOn queries [] [] names inputs o }
+        → Rehearses queries names inputs o ↔ RehearsesOn queries [] names inputs o }
 {}

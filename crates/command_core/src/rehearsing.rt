@@ -54,11 +54,11 @@ fn with_file<R: Threads + Sync, G: Gate + Sync, D: Depot>(
     requires few_workers { workers ≤ MAX_WORKERS }
     ensures added { IfOk result (λ x. (given : Option (List ℕ))
         × IsRead (D.files depot.old) (WhichFailed D.Depot depot.old depot.new) name.now given
-        × ((h : History) → IsOf h before → AddsJob h before (input name.now job_of given) x.0 x.1)) }
+        × ((h : History) → IsOf h before → AddsJob h (input name.now job_of given) x.0 x.1)) }
     ensures refused { IfErr result (λ e. e ≢ FileFault.NoMemory → (given : Option (List ℕ))
         × IsRead (D.files depot.old) (WhichFailed D.Depot depot.old depot.new) name.now given
         × ((h : History) → IsOf h before
-        → IsFileRefused h before.parts name.now given (record { name = name.now; fault = e }))) }
+        → IsFileRefused h name.now given (record { name = name.now; fault = e }))) }
     ensures blamed { IsBlamed (WhichFailed D.Depot depot.old depot.new) name.now FileFault.Unread result }
     ensures only_reads { OnlyReads D.Depot depot.old depot.new }
 {

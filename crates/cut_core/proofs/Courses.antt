@@ -7,7 +7,6 @@ use Rattle.ident_core.specs.declared.identity.Identity.{Identity}
 use Rattle.ident_core.specs.declared.range.Sighting.{Sighting}
 use Rattle.ident_core.specs.HeadFields.{zero_key}
 use Rattle.card_core.specs.Verdict.{verdict}
-use Rattle.part_text.specs.SealedFields.{SealedFields}
 use Rattle.ident_core.specs.Among.{Among}
 use Rattle.crl_core.specs.declared.crl.CrlFault.{CrlFault}
 use Rattle.crl_core.specs.Outcome.{CrlFields}
@@ -18,7 +17,8 @@ use Rattle.universe_core.specs.Formats.{JobIn, undated, reads_dates, entries_in,
 use Rattle.universe_core.specs.History.{Release, past_of, released, releases, seen, sightings}
 use Rattle.history_core.specs.Bases.{releases_cut, base_at}
 use Rattle.history_core.specs.Truth.{truth}
-use Rattle.publication_core.specs.Histories.{History, of_jobs, rebased, IsHistory, releases_of, releases_after, AreAdmissible, release_of}
+use Rattle.publication_core.specs.Histories.{Published, History, of_jobs, rebased, IsHistory, parts_of, releases_of, releases_after, release_of}
+use Rattle.publication_core.proofs.Unique.{same_jobs, same_bases}
 use Rattle.publication_core.proofs.Verdicts.{history_verdict}
 use Rattle.place_core.specs.Cuts.{Cut, is_kept}
 use Rattle.piece_core.specs.Cuts.{keeps_entry}
@@ -113,63 +113,49 @@ module _ (cut : Cut) where
       (qs ++ released (past_of qs) job other ∷ [])) (sym (facts_cut j))
       (more_beside cut rs qs (facts_in j) trailer other z up)
 
-  pub after_beside : (rs qs : List Release) (jobs : List JobIn) (parts : List SealedFields) → AllZip (IsCut cut) rs qs → Ascend rs
-      → AreAdmissible qs (map (cut_in cut) jobs) parts
-      → AllZip (IsCut cut) (left_after rs jobs) (releases_after qs (map (cut_in cut) jobs) parts)
+  pub after_beside : (rs qs : List Release) (jobs : List JobIn) (ps : List Published) → AllZip (IsCut cut) rs qs → Ascend rs
+      → map (λ p. p.job) ps ≡ map (cut_in cut) jobs → AllZip (IsCut cut) (left_after rs jobs) (releases_after qs ps)
   unfolding releases
-  after_beside rs qs [] [] z up h = z
-  after_beside rs qs [] (s ∷ parts) z up h = absurd h
-  after_beside rs qs (j ∷ jobs) [] z up h = absurd h
-  after_beside rs qs (j ∷ jobs) (s ∷ parts) z up h =
-      after_beside (rs ++ released (past_of rs) (facts_in j) zero_key ∷ []) (qs ++ release_of qs (cut_in cut j) s ∷ []) jobs parts
-      (next_beside rs qs j zero_key s.trailer z up) (Ascend-push rs (facts_in j) zero_key up) h.2
+  after_beside rs qs [] [] z up e = z
+  after_beside rs qs [] (p ∷ ps) z up e = absurd cc
+  after_beside rs qs (j ∷ jobs) [] z up e = absurd cc
+  after_beside rs qs (j ∷ jobs) (p ∷ ps) z up e =
+      let same : p.job ≡ cut_in cut j = cc in
+      let rest : map (λ p. p.job) ps ≡ map (cut_in cut) jobs = cc in
+      let whole : List Release = rs ++ released (past_of rs) (facts_in j) zero_key ∷ [] in
+      after_beside whole (qs ++ release_of qs p ∷ []) jobs ps
+      (subst (λ (i : JobIn). AllZip (IsCut cut) whole (qs ++ released (past_of qs) (facts_in i) p.sealed.trailer ∷ [])) (sym same)
+      (next_beside rs qs j zero_key p.sealed.trailer z up)) (Ascend-push rs (facts_in j) zero_key up) rest
 
-  members_beside : (rs qs : List Release) (jobs js : List JobIn) (parts : List SealedFields) → AllZip (IsCut cut) rs qs → Ascend rs
-      → js ≡ map (cut_in cut) jobs
-      → AreAdmissible qs js parts → AllZip (IsCut cut) (left_after rs jobs) (releases_after qs js parts)
-  members_beside rs qs jobs js parts z up e h =
-      subst (λ (l : List JobIn). AllZip (IsCut cut) (left_after rs jobs) (releases_after qs l parts)) (sym e)
-      (after_beside rs qs jobs parts z up (subst (λ (l : List JobIn). AreAdmissible qs l parts) e h))
-
-  jobs_same : (a b : List JobIn) → from_jobs a ≡ from_jobs b → a ≡ b
-  jobs_same a b e = cc
-
-  bases_same : (c d : Course) (m n : ℕ) (v w : Cut) (a b : List JobIn) → from_base c m v a ≡ from_base d n w b
-      → (c ≡ d) × (m ≡ n) × (v ≡ w) × (a ≡ b)
-  bases_same c d m n v w a b e = (cc, cc, cc, cc)
-
-  pub history_beside : (c : Course) (h : History) (parts : List SealedFields) → course_of h ≡ cut_course cut c → IsHistory h parts
-      → AllZip (IsCut cut) (left c) (releases_of h parts)
-  history_beside (from_jobs jobs) (of_jobs js) parts e is =
-      members_beside [] [] jobs js parts tt (λ r a. absurd a) (jobs_same js (map (cut_in cut) jobs) e) is
-  history_beside (from_jobs jobs) (rebased h old moment kept js) parts e is = absurd cc
-  history_beside (from_base c moment kept jobs) (of_jobs js) parts e is = absurd cc
-  history_beside (from_base c moment kept jobs) (rebased h old at w js) [] e is = absurd is
-  history_beside (from_base c moment kept jobs) (rebased h old at w js) (s ∷ parts) e is =
-      let same = bases_same (course_of h) (cut_course cut c) at moment w kept js (map (cut_in cut) jobs) e in
+  pub history_beside : (c : Course) (h : History) → course_of h ≡ cut_course cut c → AllZip (IsCut cut) (left c) (releases_of h)
+  history_beside (from_jobs jobs) (of_jobs ps) e = after_beside [] [] jobs ps tt (λ r a. absurd a) (same_jobs (map (λ p. p.job) ps) (map (cut_in cut) jobs) e)
+  history_beside (from_jobs jobs) (rebased h at w s ps) e = absurd cc
+  history_beside (from_base c moment kept jobs) (of_jobs ps) e = absurd cc
+  history_beside (from_base c moment kept jobs) (rebased h at w s ps) e =
+      let same = same_bases (course_of h) (cut_course cut c) at moment w kept (map (λ p. p.job) ps) (map (cut_in cut) jobs) e in
       let whole : Release = base_at moment (releases_cut kept (left c)) zero_key in
-      let by_moment : IsCut cut whole (base_at moment (releases_cut w (releases_of h old)) s.trailer) =
-      subst (λ (v : Cut). IsCut cut whole (base_at moment (releases_cut v (releases_of h old)) s.trailer)) (sym same.2)
-      (base_beside cut kept moment (left c) (releases_of h old) zero_key s.trailer (history_beside c h old same.0 is.0)) in
-      let base : IsCut cut whole (base_at at (releases_cut w (releases_of h old)) s.trailer) =
-      subst (λ (m : ℕ). IsCut cut whole (base_at m (releases_cut w (releases_of h old)) s.trailer)) (sym same.1) by_moment in
-      members_beside (whole ∷ []) (base_at at (releases_cut w (releases_of h old)) s.trailer ∷ []) jobs js parts (base, tt)
-      (base_ascends moment kept (left c) zero_key (left_ascends c)) same.3 is.3
+      let by_moment : IsCut cut whole (base_at moment (releases_cut w (releases_of h)) s.trailer) =
+      subst (λ (v : Cut). IsCut cut whole (base_at moment (releases_cut v (releases_of h)) s.trailer)) (sym same.2)
+      (base_beside cut kept moment (left c) (releases_of h) zero_key s.trailer (history_beside c h same.0)) in
+      let base : IsCut cut whole (base_at at (releases_cut w (releases_of h)) s.trailer) =
+      subst (λ (m : ℕ). IsCut cut whole (base_at m (releases_cut w (releases_of h)) s.trailer)) (sym same.1) by_moment in
+      after_beside (whole ∷ []) (base_at at (releases_cut w (releases_of h)) s.trailer ∷ []) jobs ps (base, tt)
+      (base_ascends moment kept (left c) zero_key (left_ascends c)) same.3
 
 -- ---- the truth
 
 -- the verdict of the parts of a history beside releases is their truth, asked with their accepted sightings
-pub beside_verdict : (cut : Cut) (rs : List Release) (h : History) (parts : List SealedFields) (x : Identity) (ss : List Sighting)
-    → AllZip (IsCut cut) rs (releases_of h parts) → IsHistory h parts → is_kept cut x ≡ true → 1 ≤ length ss
-    → ((s : Sighting) → Among ss s → Among (sightings x (seen rs)) s) → verdict (map (λ s. s.part) parts) x ss ≡ truth rs x
-beside_verdict cut rs h parts x ss z is k some asked =
-    history_verdict h parts x ss is some (λ s a. subst (λ (ts : List Sighting). Among ts s)
-    (sym (sightings_beside cut x k rs (releases_of h parts) z)) (asked s a))
-    ∙ truth_beside cut x k rs (releases_of h parts) z
+pub beside_verdict : (cut : Cut) (rs : List Release) (h : History) (x : Identity) (ss : List Sighting)
+    → AllZip (IsCut cut) rs (releases_of h) → IsHistory h → is_kept cut x ≡ true → 1 ≤ length ss
+    → ((s : Sighting) → Among ss s → Among (sightings x (seen rs)) s) → verdict (map (λ s. s.part) (parts_of h)) x ss ≡ truth rs x
+beside_verdict cut rs h x ss z is k some asked =
+    history_verdict h x ss is some (λ s a. subst (λ (ts : List Sighting). Among ts s)
+    (sym (sightings_beside cut x k rs (releases_of h) z)) (asked s a))
+    ∙ truth_beside cut x k rs (releases_of h) z
 
 -- so is that of the parts of a cut history the truth of the whole one
-pub cut_verdict : (cut : Cut) (c : Course) (h : History) (parts : List SealedFields) (x : Identity) (ss : List Sighting)
-    → course_of h ≡ cut_course cut c → IsHistory h parts → is_kept cut x ≡ true → 1 ≤ length ss
+pub cut_verdict : (cut : Cut) (c : Course) (h : History) (x : Identity) (ss : List Sighting)
+    → course_of h ≡ cut_course cut c → IsHistory h → is_kept cut x ≡ true → 1 ≤ length ss
     → ((s : Sighting) → Among ss s → Among (sightings x (seen (left c))) s)
-    → verdict (map (λ s. s.part) parts) x ss ≡ truth (left c) x
-cut_verdict cut c h parts x ss e is = beside_verdict cut (left c) h parts x ss (history_beside cut c h parts e is) is
+    → verdict (map (λ s. s.part) (parts_of h)) x ss ≡ truth (left c) x
+cut_verdict cut c h x ss e = beside_verdict cut (left c) h x ss (history_beside cut c h e)

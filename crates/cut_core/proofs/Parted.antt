@@ -15,7 +15,7 @@ use Rattle.universe_core.specs.History.{Release, past_of, released}
 use Rattle.universe_core.specs.Ledgers.{part_from}
 use Rattle.universe_core.specs.Step.{head_after}
 use Rattle.publication_core.specs.Building.{HaveBlocks}
-use Rattle.publication_core.specs.Histories.{groups_of, IsAdmissible, IsPartOf, release_of, AreAdmissible, History, of_jobs, rebased, with_job}
+use Rattle.publication_core.specs.Histories.{Published, groups_of, IsAdmissible, IsPartOf, release_of, AreAdmissible, History, of_jobs, rebased, with_job}
 use Rattle.publication_core.specs.Histories.{IsHistory, releases_of}
 use Rattle.publication_core.proofs.Histories.{history_sound, with_job_is}
 use Rattle.place_core.specs.Cuts.{Cut}
@@ -66,24 +66,24 @@ module _ (cut : Cut) where
 
   -- ---- one job after the other
 
-  parted_behind : (rs qs ls : List Release) (jobs : List JobIn) (parts : List SealedFields) → AllZip (IsCut cut) rs qs → AllZip (IsCut cut) rs ls
-      → Ascend rs → AreAdmissible rs jobs parts → HaveBlocksBehind ls (map (cut_in cut) jobs)
-      → (kept : List SealedFields) × AreAdmissible qs (map (cut_in cut) jobs) kept
-  parted_behind rs qs ls [] [] z y up h b = ([], tt)
-  parted_behind rs qs ls [] (s ∷ parts) z y up h b = absurd h
-  parted_behind rs qs ls (j ∷ jobs) [] z y up h b = absurd h
-  parted_behind rs qs ls (j ∷ jobs) (s ∷ parts) z y up h b =
+  parted_behind : (rs qs ls : List Release) (ps : List Published) → AllZip (IsCut cut) rs qs → AllZip (IsCut cut) rs ls
+      → Ascend rs → AreAdmissible rs ps → HaveBlocksBehind ls (map (cut_in cut) (map (λ p. p.job) ps))
+      → (kept : List Published) × AreAdmissible qs kept × (map (λ p. p.job) kept ≡ map (cut_in cut) (map (λ p. p.job) ps))
+  parted_behind rs qs ls [] z y up h b = ([], tt, refl)
+  parted_behind rs qs ls (p ∷ ps) z y up h b =
+      let j : JobIn = p.job in
       let have : HaveBlocks j.format (groups_of qs (facts_in (cut_in cut j))) = subst (HaveBlocks j.format) (groups_same rs qs ls j z y up) b.0 in
-      let p = part_there qs (cut_in cut j) have in
-      let on = parted_behind (rs ++ release_of rs j s ∷ []) (qs ++ release_of qs (cut_in cut j) p.0 ∷ [])
-      (ls ++ released (past_of ls) (facts_in (cut_in cut j)) zero_key ∷ []) jobs parts
-      (next_beside cut rs qs j s.trailer p.0.trailer z up) (next_beside cut rs ls j s.trailer zero_key y up)
-      (Ascend-push rs (facts_in j) s.trailer up) h.2 b.1 in
-      (p.0 ∷ on.0, (admissible_beside cut rs qs j z up h.0 have, p.1, on.1))
+      let s = part_there qs (cut_in cut j) have in
+      let made : Published = record { job = cut_in cut j; sealed = s.0 } in
+      let on = parted_behind (rs ++ release_of rs p ∷ []) (qs ++ release_of qs made ∷ [])
+      (ls ++ released (past_of ls) (facts_in (cut_in cut j)) zero_key ∷ []) ps
+      (next_beside cut rs qs j p.sealed.trailer s.0.trailer z up) (next_beside cut rs ls j p.sealed.trailer zero_key y up)
+      (Ascend-push rs (facts_in j) p.sealed.trailer up) h.2 b.1 in
+      (made ∷ on.0, (admissible_beside cut rs qs j z up h.0 have, s.1, on.1), ap (λ (js : List JobIn). cut_in cut j ∷ js) on.2)
 
-  pub jobs_parted : (jobs : List JobIn) (parts : List SealedFields) → IsHistory (of_jobs jobs) parts → HaveBlocksBehind [] (map (cut_in cut) jobs)
-      → (kept : List SealedFields) × IsHistory (of_jobs (map (cut_in cut) jobs)) kept
-  jobs_parted jobs parts is blocks = parted_behind [] [] [] jobs parts tt tt (λ r a. absurd a) is blocks
+  pub jobs_parted : (ps : List Published) → IsHistory (of_jobs ps) → HaveBlocksBehind [] (map (cut_in cut) (map (λ p. p.job) ps))
+      → (h : History) × IsHistory h × (course_of h ≡ cut_course cut (course_of (of_jobs ps)))
+  jobs_parted ps is blocks = let on = parted_behind [] [] [] ps tt tt (λ r a. absurd a) is blocks in (of_jobs on.0, on.1, ap from_jobs on.2)
 
   -- ---- one job more, behind jobs or a base
 
@@ -91,30 +91,30 @@ module _ (cut : Cut) where
   with_more (from_jobs jobs) j = from_jobs (jobs ++ j ∷ [])
   with_more (from_base c moment without jobs) j = from_base c moment without (jobs ++ j ∷ [])
 
-  course_more : (h : History) (j : JobIn) → course_of (with_job h j) ≡ with_more (course_of h) j
-  course_more (of_jobs jobs) j = refl
-  course_more (rebased h old moment without jobs) j = refl
+  course_more : (h : History) (j : JobIn) (s : SealedFields) → course_of (with_job h j s) ≡ with_more (course_of h) j
+  course_more (of_jobs ps) j s = ap from_jobs (map-append (λ p. p.job) ps (record { job = j; sealed = s } ∷ []))
+  course_more (rebased h moment without base ps) j s = ap (from_base (course_of h) moment without) (map-append (λ p. p.job) ps (record { job = j; sealed = s } ∷ []))
 
   cut_more : (c : Course) (j : JobIn) → cut_course cut (with_more c j) ≡ with_more (cut_course cut c) (cut_in cut j)
   cut_more (from_jobs jobs) j = ap from_jobs (map-append (cut_in cut) jobs (j ∷ []))
   cut_more (from_base c moment without jobs) j = ap (from_base (cut_course cut c) moment without) (map-append (cut_in cut) jobs (j ∷ []))
 
-  pub next_course : (whole kept : History) (j : JobIn) → course_of kept ≡ cut_course cut (course_of whole)
-      → course_of (with_job kept (cut_in cut j)) ≡ cut_course cut (course_of (with_job whole j))
-  next_course whole kept j same =
-      course_more kept (cut_in cut j) ∙ ap (λ (c : Course). with_more c (cut_in cut j)) same ∙ sym (cut_more (course_of whole) j)
-      ∙ ap (cut_course cut) (sym (course_more whole j))
+  pub next_course : (whole kept : History) (j : JobIn) (s t : SealedFields) → course_of kept ≡ cut_course cut (course_of whole)
+      → course_of (with_job kept (cut_in cut j) s) ≡ cut_course cut (course_of (with_job whole j t))
+  next_course whole kept j s t same =
+      course_more kept (cut_in cut j) s ∙ ap (λ (c : Course). with_more c (cut_in cut j)) same ∙ sym (cut_more (course_of whole) j)
+      ∙ ap (cut_course cut) (sym (course_more whole j t))
 
-  pub next_parted : (whole kept : History) (old parts : List SealedFields) (j : JobIn) → IsHistory whole old → IsHistory kept parts
-      → course_of kept ≡ cut_course cut (course_of whole) → IsAdmissible (releases_of whole old) j
-      → HaveBlocks j.format (groups_of (releases_of kept parts) (facts_in (cut_in cut j)))
-      → (s : SealedFields) × IsHistory (with_job kept (cut_in cut j)) (parts ++ s ∷ [])
-  next_parted whole kept old parts j before is same a have =
-      let rs : List Release = releases_of whole old in
-      let qs : List Release = releases_of kept parts in
-      let sound = history_sound whole old before in
+  pub next_parted : (whole kept : History) (j : JobIn) → IsHistory whole → IsHistory kept
+      → course_of kept ≡ cut_course cut (course_of whole) → IsAdmissible (releases_of whole) j
+      → HaveBlocks j.format (groups_of (releases_of kept) (facts_in (cut_in cut j)))
+      → (s : SealedFields) × IsHistory (with_job kept (cut_in cut j) s)
+  next_parted whole kept j before is same a have =
+      let rs : List Release = releases_of whole in
+      let qs : List Release = releases_of kept in
+      let sound = history_sound whole before in
       let p = part_there qs (cut_in cut j) have in (
         p.0,
-        with_job_is kept parts (cut_in cut j) p.0 is
-            (admissible_beside cut rs qs j (cut_beside whole old before cut kept parts is same) (λ r b. (sound.formed r b).accepted_ascend) a have) p.1,
+        with_job_is kept (record { job = cut_in cut j; sealed = p.0 }) is
+            (admissible_beside cut rs qs j (cut_beside whole cut kept same) (λ r b. (sound.formed r b).accepted_ascend) a have) p.1,
       )

@@ -7,7 +7,6 @@ use Rattle.ident_core.specs.declared.range.Sighting.{Sighting}
 use Rattle.ident_core.specs.Among.{Among}
 use Rattle.ident_core.specs.HeadFields.{zero_key}
 use Rattle.card_core.specs.Verdict.{verdict}
-use Rattle.part_text.specs.SealedFields.{SealedFields}
 use Rattle.job_core.specs.JobFields.{CrlMeaning, JobFields}
 use Rattle.universe_core.specs.Jobs.{Entry}
 use Rattle.universe_core.specs.Formats.{JobIn}
@@ -15,7 +14,8 @@ use Rattle.universe_core.specs.History.{Release, seen, sightings}
 use Rattle.history_core.specs.Bases.{release_cut, releases_cut, base_at}
 use Rattle.history_core.specs.Truth.{truth}
 use Rattle.history_core.proofs.Cuts.{cut_by_everything}
-use Rattle.publication_core.specs.Histories.{History, rebased, IsHistory, releases_of}
+use Rattle.publication_core.specs.Histories.{History, of_jobs, rebased, IsHistory, parts_of, releases_of}
+use Rattle.publication_core.proofs.Unique.{same_bases}
 use Rattle.place_core.specs.Cuts.{Cut, is_kept, everything}
 use Rattle.piece_core.specs.Cuts.{keeps_entry}
 use Rattle.cut_core.specs.Cutting.{cut_job, cut_in, IsCut}
@@ -77,62 +77,64 @@ releases_whole cut (w ∷ ws) [] qs e c = absurd e
 releases_whole cut (w ∷ ws) (r ∷ rs) [] e c = absurd c
 releases_whole cut (w ∷ ws) (r ∷ rs) (q ∷ qs) e c = (release_whole cut w r q e.0 c.0, releases_whole cut ws rs qs e.1 c.1)
 
-module _ (h : History) (parts : List SealedFields) (is : IsHistory h parts) where
-  beside : AllZip (IsCut everything) (left (course_of h)) (releases_of h parts)
-  beside = history_beside everything (course_of h) h parts (sym (course_whole (course_of h))) is
+module _ (h : History) where
+  beside : AllZip (IsCut everything) (left (course_of h)) (releases_of h)
+  beside = history_beside everything (course_of h) h (sym (course_whole (course_of h)))
 
-  pub whole_truth : (x : Identity) → truth (releases_of h parts) x ≡ truth (left (course_of h)) x
-  whole_truth x = truth_beside everything x refl (left (course_of h)) (releases_of h parts) beside
+  pub whole_truth : (x : Identity) → truth (releases_of h) x ≡ truth (left (course_of h)) x
+  whole_truth x = truth_beside everything x refl (left (course_of h)) (releases_of h) beside
 
-  pub whole_sightings : (x : Identity) → sightings x (seen (releases_of h parts)) ≡ sightings x (seen (left (course_of h)))
-  whole_sightings x = sightings_beside everything x refl (left (course_of h)) (releases_of h parts) beside
+  pub whole_sightings : (x : Identity) → sightings x (seen (releases_of h)) ≡ sightings x (seen (left (course_of h)))
+  whole_sightings x = sightings_beside everything x refl (left (course_of h)) (releases_of h) beside
 
   -- a cut history beside the whole one
-  pub cut_beside : (cut : Cut) (kept : History) (others : List SealedFields) → IsHistory kept others → course_of kept ≡ cut_course cut (course_of h)
-      → AllZip (IsCut cut) (releases_of h parts) (releases_of kept others)
-  cut_beside cut kept others other e =
-      releases_whole cut (left (course_of h)) (releases_of h parts) (releases_of kept others) beside
-      (history_beside cut (course_of h) kept others e other)
+  pub cut_beside : (cut : Cut) (kept : History) → course_of kept ≡ cut_course cut (course_of h) → AllZip (IsCut cut) (releases_of h) (releases_of kept)
+  cut_beside cut kept e =
+      releases_whole cut (left (course_of h)) (releases_of h) (releases_of kept) beside (history_beside cut (course_of h) kept e)
 
 -- ---- a chain that is begun anew by what is kept of a history, beside the whole, begun anew
 
-module _ (cut : Cut) (whole : History) (old : List SealedFields) (moment : ℕ) (jobs : List JobIn) where
+module _ (cut : Cut) (c : Course) (moment : ℕ) (jobs : List JobIn) where
   abbrev begun : Course
-  begun = from_base (course_of whole) moment everything jobs
+  begun = from_base c moment everything jobs
 
-  abbrev split : History
-  split = rebased whole old moment cut (map (cut_in cut) jobs)
+  abbrev split : Course
+  split = from_base c moment cut (map (cut_in cut) jobs)
 
-  base_split : (trailer : List ℕ) → IsHistory whole old
-      → IsCut cut (base_at moment (releases_cut everything (left (course_of whole))) zero_key)
-      (base_at moment (releases_cut cut (releases_of whole old)) trailer)
-  base_split trailer is =
-      base_cut cut moment (releases_cut everything (left (course_of whole))) (releases_cut cut (releases_of whole old))
-      (subst (λ (rs : List Release). AllZip (IsCut cut) rs (releases_cut cut (releases_of whole old)))
-      (sym (cut_by_everything (left (course_of whole))))
-      (rest_beside cut (left (course_of whole)) (releases_of whole old) (beside whole old is))) zero_key trailer
+  abbrev whole : Release
+  whole = base_at moment (releases_cut everything (left c)) zero_key
 
-  pub split_beside : (parts : List SealedFields) → IsHistory split parts → AllZip (IsCut cut) (left begun) (releases_of split parts)
-  split_beside [] is = absurd is
-  split_beside (s ∷ parts) is =
-      after_beside cut (base_at moment (releases_cut everything (left (course_of whole))) zero_key ∷ [])
-      (base_at moment (releases_cut cut (releases_of whole old)) s.trailer ∷ []) jobs parts (base_split s.trailer is.0, tt)
-      (base_ascends moment everything (left (course_of whole)) zero_key (left_ascends cut (course_of whole))) is.3
+  base_split : (h : History) (trailer : List ℕ) → course_of h ≡ c → IsCut cut whole (base_at moment (releases_cut cut (releases_of h)) trailer)
+  base_split h trailer e =
+      base_cut cut moment (releases_cut everything (left c)) (releases_cut cut (releases_of h))
+      (subst (λ (rs : List Release). AllZip (IsCut cut) rs (releases_cut cut (releases_of h))) (sym (cut_by_everything (left c)))
+      (rest_beside cut (left c) (releases_of h) (history_beside everything c h (e ∙ sym (course_whole c))))) zero_key trailer
+
+  pub split_beside : (h : History) → course_of h ≡ split → AllZip (IsCut cut) (left begun) (releases_of h)
+  split_beside (of_jobs ps) e = absurd cc
+  split_beside (rebased h n w s ps) e =
+      let same = same_bases (course_of h) c n moment w cut (map (λ p. p.job) ps) (map (cut_in cut) jobs) e in
+      let by_moment : IsCut cut whole (base_at moment (releases_cut w (releases_of h)) s.trailer) =
+      subst (λ (v : Cut). IsCut cut whole (base_at moment (releases_cut v (releases_of h)) s.trailer)) (sym same.2) (base_split h s.trailer same.0) in
+      let base : IsCut cut whole (base_at n (releases_cut w (releases_of h)) s.trailer) =
+      subst (λ (m : ℕ). IsCut cut whole (base_at m (releases_cut w (releases_of h)) s.trailer)) (sym same.1) by_moment in
+      after_beside cut (whole ∷ []) (base_at n (releases_cut w (releases_of h)) s.trailer ∷ []) jobs ps (base, tt)
+      (base_ascends moment everything (left c) zero_key (left_ascends cut c)) same.3
 
   -- the verdict of its parts is the truth of the whole, begun anew
-  pub split_verdict : (parts : List SealedFields) (x : Identity) (ss : List Sighting) → IsHistory split parts → is_kept cut x ≡ true
+  pub split_verdict : (h : History) (x : Identity) (ss : List Sighting) → IsHistory h → course_of h ≡ split → is_kept cut x ≡ true
       → 1 ≤ length ss → ((s : Sighting) → Among ss s → Among (sightings x (seen (left begun))) s)
-      → verdict (map (λ s. s.part) parts) x ss ≡ truth (left begun) x
-  split_verdict parts x ss is = beside_verdict cut (left begun) split parts x ss (split_beside parts is) is
+      → verdict (map (λ s. s.part) (parts_of h)) x ss ≡ truth (left begun) x
+  split_verdict h x ss is e = beside_verdict cut (left begun) h x ss (split_beside h e) is
 
 -- ---- the truth
 
 -- the verdict of the parts of a cut history is the truth of the whole one, where that has parts too
-pub whole_verdict : (cut : Cut) (whole kept : History) (old parts : List SealedFields) (x : Identity) (ss : List Sighting)
-    → IsHistory whole old → IsHistory kept parts → course_of kept ≡ cut_course cut (course_of whole) → is_kept cut x ≡ true → 1 ≤ length ss
-    → ((s : Sighting) → Among ss s → Among (sightings x (seen (releases_of whole old))) s)
-    → verdict (map (λ s. s.part) parts) x ss ≡ truth (releases_of whole old) x
-whole_verdict cut whole kept old parts x ss before is e k some asked =
-    cut_verdict cut (course_of whole) kept parts x ss e is k some
-    (λ s a. subst (λ (ts : List Sighting). Among ts s) (whole_sightings whole old before x) (asked s a))
-    ∙ sym (whole_truth whole old before x)
+pub whole_verdict : (cut : Cut) (whole kept : History) (x : Identity) (ss : List Sighting)
+    → IsHistory kept → course_of kept ≡ cut_course cut (course_of whole) → is_kept cut x ≡ true → 1 ≤ length ss
+    → ((s : Sighting) → Among ss s → Among (sightings x (seen (releases_of whole))) s)
+    → verdict (map (λ s. s.part) (parts_of kept)) x ss ≡ truth (releases_of whole) x
+whole_verdict cut whole kept x ss is e k some asked =
+    cut_verdict cut (course_of whole) kept x ss e is k some
+    (λ s a. subst (λ (ts : List Sighting). Among ts s) (whole_sightings whole x) (asked s a))
+    ∙ sym (whole_truth whole x)

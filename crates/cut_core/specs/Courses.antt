@@ -1,20 +1,15 @@
--- Histories as their jobs alone tell them: with no parts, and with no bound on how much their jobs accept. A history that
--- is cut into places may be one of these and no more, since all of it would pass the limits.
+-- What courses leave: with no parts, and with no bound on how much their jobs accept. A history that is cut into places
+-- may be a course and no more, since all of it would pass the limits.
 use Rattle.std.specs.Prelude.{ℕ, List, [], ◌∷◌, ◌++◌, map}
 use Rattle.ident_core.specs.HeadFields.{zero_key}
 use Rattle.universe_core.specs.Formats.{JobIn, facts_in}
 use Rattle.universe_core.specs.History.{Release, past_of, released, releases}
 use Rattle.history_core.specs.Bases.{releases_cut, base_at}
 use Rattle.publication_core.specs.Building.{HaveBlocks}
-use Rattle.publication_core.specs.Histories.{groups_of, History, of_jobs, rebased}
+use Rattle.publication_core.specs.Histories.{groups_of}
+pub use Rattle.publication_core.specs.Histories.{Course, from_jobs, from_base, course_of}
 use Rattle.place_core.specs.Cuts.{Cut}
 use Rattle.cut_core.specs.Cutting.{cut_in}
-
--- Jobs from the first on; or a base, which stands at a moment for what a cut keeps of all before it, and the jobs behind
--- it.
-pub data Course : Type 0 where
-  from_jobs : List JobIn → Course
-  from_base : Course → ℕ → Cut → List JobIn → Course
 
 -- these releases, and then what the jobs leave; no part is known, and the trailers are zeros
 abbrev pub left_after : List Release → List JobIn → List Release
@@ -29,11 +24,6 @@ left (from_base c moment kept jobs) = left_after (base_at moment (releases_cut k
 abbrev pub cut_course : Cut → Course → Course
 cut_course cut (from_jobs jobs) = from_jobs (map (cut_in cut) jobs)
 cut_course cut (from_base c moment kept jobs) = from_base (cut_course cut c) moment kept (map (cut_in cut) jobs)
-
--- the course of a history: its members, without their parts
-abbrev pub course_of : History → Course
-course_of (of_jobs jobs) = from_jobs jobs
-course_of (rebased h old moment kept jobs) = from_base (course_of h) moment kept jobs
 
 -- each group of each of the jobs has a block, behind these releases and the jobs before it
 abbrev pub HaveBlocksBehind : List Release → List JobIn → Type 0

@@ -1,6 +1,6 @@
 //! What is left of cut jobs, whichever identities are kept.
 
-ghost use Rattle.std.specs.Prelude.{◌≡◌, ◌<◌, ◌≤◌, [], ◌∷◌, ◌++◌, ℕ, List, Some, All, IfSome, IsOk};
+ghost use Rattle.std.specs.Prelude.{◌≡◌, ◌<◌, ◌≤◌, [], ℕ, List, Some, All, IfSome, IsOk};
 ghost use Rattle.std.specs.Prelude.{true, false, map, length};
 ghost use Rattle.std.specs.List.{AllZip};
 ghost use Rattle.ident_core.specs.declared.bounds.TheConstants.{MAX_PARTS};
@@ -19,7 +19,7 @@ ghost use Rattle.universe_core.specs.Ledgers.{last};
 ghost use Rattle.history_core.specs.Bases.{releases_cut, base_at};
 ghost use Rattle.history_core.specs.Truth.{truth};
 ghost use Rattle.publication_core.specs.Building.{HaveBlocks};
-ghost use Rattle.publication_core.specs.Histories.{History, of_jobs, rebased, with_job, IsHistory, releases_of};
+ghost use Rattle.publication_core.specs.Histories.{Published, History, of_jobs, with_job, IsHistory, releases_of};
 ghost use Rattle.publication_core.specs.Histories.{newest_of, groups_of, GoesOn, IsAdmissible};
 ghost use Rattle.place_core.specs.Cuts.{Cut, is_kept, both, everything};
 ghost use Rattle.cut_core.specs.Cutting.{cut_job, cut_in, cut_facts, IsCut};
@@ -36,18 +36,17 @@ pub fn cuts_leave_what_is_kept()
     ensures jobs { (cut : Cut) (trailer other : List Release → JobFacts → List ℕ) (jobs : List JobFacts)
         → AllZip (IsCut cut) (releases trailer [] jobs) (releases other [] (map (cut_facts cut) jobs)) }
     ensures courses { (cut : Cut) (c : Course) → AllZip (IsCut cut) (left c) (left (cut_course cut c)) }
-    ensures histories { (cut : Cut) (c : Course) (h : History) (parts : List SealedFields)
-        → course_of h ≡ cut_course cut c → IsHistory h parts → AllZip (IsCut cut) (left c) (releases_of h parts) }
+    ensures histories { (cut : Cut) (c : Course) (h : History)
+        → course_of h ≡ cut_course cut c → AllZip (IsCut cut) (left c) (releases_of h) }
     ensures bases { (cut : Cut) (moment : ℕ) (kept : Cut) (rs qs : List Release) (trailer other : List ℕ)
         → AllZip (IsCut cut) rs qs
         → IsCut cut (base_at moment (releases_cut kept rs) trailer)
         (base_at moment (releases_cut kept qs) other) }
     ensures splits { (cut : Cut) (moment : ℕ) (rs : List Release) (trailer other : List ℕ)
         → IsCut cut (base_at moment rs trailer) (base_at moment (releases_cut cut rs) other) }
-    ensures begun { (cut : Cut) (whole : History) (old : List SealedFields) (moment : ℕ) (jobs : List JobIn)
-        (parts : List SealedFields) → IsHistory (rebased whole old moment cut (map (cut_in cut) jobs)) parts
-        → AllZip (IsCut cut) (left (from_base (course_of whole) moment everything jobs))
-        (releases_of (rebased whole old moment cut (map (cut_in cut) jobs)) parts) }
+    ensures begun { (cut : Cut) (c : Course) (moment : ℕ) (jobs : List JobIn) (h : History)
+        → course_of h ≡ from_base c moment cut (map (cut_in cut) jobs)
+        → AllZip (IsCut cut) (left (from_base c moment everything jobs)) (releases_of h) }
     ensures again { (a b : Cut) (r q s : Release) → IsCut a r q → IsCut b q s → IsCut (both a b) r s }
     ensures again_jobs { (a b : Cut) (job : JobFields) → cut_job b (cut_job a job) ≡ cut_job (both a b) job }
     ensures again_courses { (a b : Cut) (c : Course) → cut_course b (cut_course a c) ≡ cut_course (both a b) c }
@@ -105,14 +104,14 @@ pub fn cut_jobs_follow()
 /// history with some parts (`jobs`). Behind a cut history with parts, which may begin with a base, a job that may
 /// follow the whole one has a part, cut (`next`), and the two are cut alike with it (`course`).
 pub fn cut_jobs_have_parts()
-    ensures jobs { (cut : Cut) (jobs : List JobIn) (parts : List SealedFields) → IsHistory (of_jobs jobs) parts
-        → HaveBlocksBehind [] (map (cut_in cut) jobs)
-        → (kept : List SealedFields) × IsHistory (of_jobs (map (cut_in cut) jobs)) kept }
-    ensures next { (cut : Cut) (whole kept : History) (old parts : List SealedFields) (j : JobIn)
-        → IsHistory whole old → IsHistory kept parts → course_of kept ≡ cut_course cut (course_of whole)
-        → IsAdmissible (releases_of whole old) j
-        → HaveBlocks j.format (groups_of (releases_of kept parts) (facts_in (cut_in cut j)))
-        → (s : SealedFields) × IsHistory (with_job kept (cut_in cut j)) (parts ++ s ∷ []) }
-    ensures course { (cut : Cut) (whole kept : History) (j : JobIn) → course_of kept ≡ cut_course cut (course_of whole)
-        → course_of (with_job kept (cut_in cut j)) ≡ cut_course cut (course_of (with_job whole j)) }
+    ensures jobs { (cut : Cut) (ps : List Published) → IsHistory (of_jobs ps)
+        → HaveBlocksBehind [] (map (cut_in cut) (map (λ p. p.job) ps))
+        → (h : History) × IsHistory h × (course_of h ≡ cut_course cut (course_of (of_jobs ps))) }
+    ensures next { (cut : Cut) (whole kept : History) (j : JobIn) → IsHistory whole → IsHistory kept
+        → course_of kept ≡ cut_course cut (course_of whole) → IsAdmissible (releases_of whole) j
+        → HaveBlocks j.format (groups_of (releases_of kept) (facts_in (cut_in cut j)))
+        → (s : SealedFields) × IsHistory (with_job kept (cut_in cut j) s) }
+    ensures course { (cut : Cut) (whole kept : History) (j : JobIn) (s t : SealedFields)
+        → course_of kept ≡ cut_course cut (course_of whole)
+        → course_of (with_job kept (cut_in cut j) s) ≡ cut_course cut (course_of (with_job whole j t)) }
 {}

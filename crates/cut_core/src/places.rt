@@ -9,13 +9,12 @@ ghost use Rattle.place_core.specs.Places.{issuer_place, place_in};
 ghost use Rattle.place_core.specs.Cuts.{is_kept, everything, at_place};
 ghost use Rattle.card_core.specs.PartFields.{PartFields};
 ghost use Rattle.card_core.specs.Verdict.{verdict};
-ghost use Rattle.part_text.specs.SealedFields.{SealedFields};
 ghost use Rattle.job_core.specs.JobFields.{JobFields};
 ghost use Rattle.universe_core.specs.Jobs.{Entry};
 ghost use Rattle.universe_core.specs.Formats.{JobIn};
 ghost use Rattle.universe_core.specs.History.{seen, sightings};
 ghost use Rattle.history_core.specs.Truth.{truth};
-ghost use Rattle.publication_core.specs.Histories.{History, rebased, IsHistory, releases_of};
+ghost use Rattle.publication_core.specs.Histories.{History, IsHistory, parts_of, releases_of};
 ghost use Rattle.audit_core.specs.Auditing.{AllAgree, left_by_jobs};
 ghost use Rattle.cut_core.specs.Courses.{Course, from_base, left, course_of};
 ghost use Rattle.piece_core.specs.Cuts.{entry_place};
@@ -44,23 +43,21 @@ pub fn entries_have_one_place()
 /// of a history the truth of this, begun anew whole (`split`); and that of any parts with which an audit by the jobs of
 /// the place agrees that of the whole jobs (`audited`).
 pub fn places_say_the_truth()
-    ensures published { (by : By) (count : ℕ) (c : Course) (x : Identity) (h : History) (parts : List SealedFields)
-        (ss : List Sighting) → course_of h ≡ course_at by count (place_in by count x) c → IsHistory h parts
+    ensures published { (by : By) (count : ℕ) (c : Course) (x : Identity) (h : History)
+        (ss : List Sighting) → course_of h ≡ course_at by count (place_in by count x) c → IsHistory h
         → 1 ≤ length ss
         → ((s : Sighting) → Among ss s → Among (sightings x (seen (left c))) s)
-        → verdict (map (λ s. s.part) parts) x ss ≡ truth (left c) x }
-    ensures whole { (by : By) (count : ℕ) (whole kept : History) (old parts : List SealedFields) (x : Identity)
-        (ss : List Sighting) → IsHistory whole old → IsHistory kept parts
+        → verdict (map (λ s. s.part) (parts_of h)) x ss ≡ truth (left c) x }
+    ensures whole { (by : By) (count : ℕ) (whole kept : History) (x : Identity) (ss : List Sighting) → IsHistory kept
         → course_of kept ≡ course_at by count (place_in by count x) (course_of whole) → 1 ≤ length ss
-        → ((s : Sighting) → Among ss s → Among (sightings x (seen (releases_of whole old))) s)
-        → verdict (map (λ s. s.part) parts) x ss ≡ truth (releases_of whole old) x }
-    ensures split { (by : By) (count : ℕ) (whole : History) (old : List SealedFields) (moment : ℕ) (jobs : List JobIn)
-        (x : Identity) (parts : List SealedFields) (ss : List Sighting)
-        → IsHistory (rebased whole old moment (at_place by count (place_in by count x))
-        (map (in_at by count (place_in by count x)) jobs)) parts → 1 ≤ length ss
+        → ((s : Sighting) → Among ss s → Among (sightings x (seen (releases_of whole))) s)
+        → verdict (map (λ s. s.part) (parts_of kept)) x ss ≡ truth (releases_of whole) x }
+    ensures split { (by : By) (count : ℕ) (c : Course) (moment : ℕ) (jobs : List JobIn) (x : Identity) (h : History)
+        (ss : List Sighting) → IsHistory h → course_of h ≡ from_base c moment (at_place by count (place_in by count x))
+        (map (in_at by count (place_in by count x)) jobs) → 1 ≤ length ss
         → ((s : Sighting) → Among ss s
-        → Among (sightings x (seen (left (from_base (course_of whole) moment everything jobs)))) s)
-        → verdict (map (λ s. s.part) parts) x ss ≡ truth (left (from_base (course_of whole) moment everything jobs)) x }
+        → Among (sightings x (seen (left (from_base c moment everything jobs)))) s)
+        → verdict (map (λ s. s.part) (parts_of h)) x ss ≡ truth (left (from_base c moment everything jobs)) x }
     ensures audited { (by : By) (count : ℕ) (jobs : List JobFields) (x : Identity) (parts : List PartFields)
         (ss : List Sighting) → AllAgree parts (map (job_at by count (place_in by count x)) jobs) → 1 ≤ length ss
         → ((s : Sighting) → Among ss s → Among (sightings x (seen (left_by_jobs jobs))) s)

@@ -15,7 +15,7 @@ use Rattle.card_core.specs.Verdict.{verdict}
 use Rattle.slot_core.specs.Device.{IsDevice}
 use Rattle.ident_core.specs.Among.{Among}
 use Rattle.universe_core.specs.History.{seen, sightings}
-use Rattle.publication_core.specs.Histories.{History, members, IsHistory, releases_of, store_bytes}
+use Rattle.publication_core.specs.Histories.{History, members, IsHistory, parts_of, releases_of, store_bytes}
 use Rattle.publication_core.specs.Truth.{truth}
 use Rattle.input_core.specs.declared.fault.FileFault.{FileFault}
 use Rattle.input_core.specs.declared.fault.FileFault.TheVariants as faults
@@ -146,33 +146,32 @@ module _ (call : DeviceCall) (device : List ℕ) (told : call.before.told ≡ So
 
   -- what the layers promise of histories
   pub record Laws : Type 0 where
-    pub chain : (h : History) (parts : List SealedFields) → IsHistory h parts → IsChain parts
-    pub many : (h : History) (parts : List SealedFields) → IsHistory h parts → length parts ≡ members h
-    pub few : (h : History) (parts : List SealedFields) → IsHistory h parts → length parts ≤ 64
-    pub texts : (h : History) (parts : List SealedFields) → IsHistory h parts → All Fits parts
-    pub truths : (h : History) (parts : List SealedFields) (x : Identity) (ss : List Sighting) → IsHistory h parts → 1 ≤ length ss
-        → ((s : Sighting) → Among ss s → Among (sightings x (seen (releases_of h parts))) s) → verdict (map (λ s. s.part) parts) x ss ≡ truth (releases_of h parts) x
+    pub chain : (h : History) → IsHistory h → IsChain (parts_of h)
+    pub few : (h : History) → IsHistory h → members h ≤ 64
+    pub texts : (h : History) → IsHistory h → All Fits (parts_of h)
+    pub truths : (h : History) (x : Identity) (ss : List Sighting) → IsHistory h → 1 ≤ length ss
+        → ((s : Sighting) → Among ss s → Among (sightings x (seen (releases_of h))) s) → verdict (map (λ s. s.part) (parts_of h)) x ss ≡ truth (releases_of h) x
     pub store_read : (parts : List SealedFields) → IsChain parts → 1 ≤ length parts → length parts ≤ 64 → All Fits parts → value_of (store (store_text parts) 0) ≡ Ok parts
 
   same_parts : (one other : List SealedFields) → ◌≡◌ {A = Result (List SealedFields) FileFault} (Ok one) (Ok other) → one ≡ other
   same_parts one other is = cc
 
-  truth_done : Laws → (q : Query) (h : History) (parts : List SealedFields) (capacity : ℕ) → IsHistory h parts → 1 ≤ members h
-      → IsDevice capacity (store_bytes parts) device → 1 ≤ length q.sightings → ((s : Sighting) → Among q.sightings s → Among (sightings q.id (seen (releases_of h parts))) s)
-      → Answered call device q → Prints call (verdict_line (truth (releases_of h parts) q.id))
-  truth_done laws q h parts capacity is some holds asked accepted a =
-      let held : a.held ≡ store_text parts = held_once a.capacity capacity a.held (store_text parts) device a.is_device holds in
-      let read : store_in (store_text parts) ≡ Ok parts =
-      ap (faulted of_store) (laws.store_read parts (laws.chain h parts is) (omega (arith, laws.many h parts is, some)) (laws.few h parts is) (laws.texts h parts is)) in
-      let same : a.parts ≡ parts = same_parts a.parts parts (sym a.is_store ∙ ap store_in held ∙ read) in
+  truth_done : Laws → (q : Query) (h : History) (capacity : ℕ) → IsHistory h → 1 ≤ members h
+      → IsDevice capacity (store_bytes (parts_of h)) device → 1 ≤ length q.sightings → ((s : Sighting) → Among q.sightings s → Among (sightings q.id (seen (releases_of h))) s)
+      → Answered call device q → Prints call (verdict_line (truth (releases_of h) q.id))
+  truth_done laws q h capacity is some holds asked accepted a =
+      let held : a.held ≡ store_text (parts_of h) = held_once a.capacity capacity a.held (store_text (parts_of h)) device a.is_device holds in
+      let read : store_in (store_text (parts_of h)) ≡ Ok (parts_of h) =
+      ap (faulted of_store) (laws.store_read (parts_of h) (laws.chain h is) some (laws.few h is) (laws.texts h is)) in
+      let same : a.parts ≡ parts_of h = same_parts a.parts (parts_of h) (sym a.is_store ∙ ap store_in held ∙ read) in
       a.prints ∙ ap (λ (ps : List SealedFields). followed_by call.printed.text_before (verdict_line (verdict (map (λ s. s.part) ps) q.id q.sightings))) same
-      ∙ ap (λ (v : Verdict). followed_by call.printed.text_before (verdict_line v)) (laws.truths h parts q.id q.sightings is asked accepted)
+      ∙ ap (λ (v : Verdict). followed_by call.printed.text_before (verdict_line v)) (laws.truths h q.id q.sightings is asked accepted)
 
   pub promised : Laws → Ends call → Promises call device
   promised laws ends = record {
     format = λ f did. let d = done_by ends did.1 in format_done f d (as_asked d (commands.Format f) did.0);
     install = λ i did. let d = done_by ends did.1 in install_done i d (as_asked d (commands.Install i) did.0);
     query = λ q did. let d = done_by ends did.1 in query_done q d (as_asked d (commands.Query q) did.0);
-    truth = λ q h parts capacity is some holds asked accepted did.
-        let d = done_by ends did.1 in truth_done laws q h parts capacity is some holds asked accepted (query_done q d (as_asked d (commands.Query q) did.0));
+    truth = λ q h capacity is some holds asked accepted did.
+        let d = done_by ends did.1 in truth_done laws q h capacity is some holds asked accepted (query_done q d (as_asked d (commands.Query q) did.0));
   }

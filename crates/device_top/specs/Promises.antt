@@ -9,7 +9,7 @@ use Rattle.slot_core.specs.Disk.{HasFailed, Quiet}
 use Rattle.slot_core.specs.Device.{IsDevice, picks_second}
 use Rattle.ident_core.specs.Among.{Among}
 use Rattle.universe_core.specs.History.{seen, sightings}
-use Rattle.publication_core.specs.Histories.{History, members, IsHistory, releases_of, store_bytes}
+use Rattle.publication_core.specs.Histories.{History, members, IsHistory, parts_of, releases_of, store_bytes}
 use Rattle.publication_core.specs.Truth.{truth}
 use Rattle.input_core.specs.Readings.{store_in}
 use Rattle.input_core.specs.Inputs.{IsRead}
@@ -69,10 +69,10 @@ pub record Promises (call : DeviceCall) (device : List ℕ) : Type 0 where
   pub install : (i : InstallPart) → Did call (commands.Install i) → Installed call device i
   pub query : (q : Query) → Did call (commands.Query q) → Answered call device q
   -- where the slot holds the bytes of a history's store, asked with accepted sightings of the certificate alone
-  pub truth : (q : Query) (h : History) (parts : List SealedFields) (capacity : ℕ) → IsHistory h parts
-      → 1 ≤ members h → IsDevice capacity (store_bytes parts) device → 1 ≤ length q.sightings
-      → ((s : Sighting) → Among q.sightings s → Among (sightings q.id (seen (releases_of h parts))) s)
-      → Did call (commands.Query q) → Prints call (verdict_line (truth (releases_of h parts) q.id))
+  pub truth : (q : Query) (h : History) (capacity : ℕ) → IsHistory h
+      → 1 ≤ members h → IsDevice capacity (store_bytes (parts_of h)) device → 1 ≤ length q.sightings
+      → ((s : Sighting) → Among q.sightings s → Among (sightings q.id (seen (releases_of h))) s)
+      → Did call (commands.Query q) → Prints call (verdict_line (truth (releases_of h) q.id))
 
 -- What each other status says, over any disk and files, told or not.
 pub record Refusals (call : DeviceCall) : Type 0 where

@@ -133,21 +133,21 @@ module _ (moment : ℕ) (cut : Cut) (old : List Release) (sound : IsSound old) w
 
 -- ---- the ledger of a history
 
-module _ (h : History) (parts : List SealedFields) (moment : ℕ) (cut : Cut) (is : IsHistory h parts) where
-  pub base_rebasable : (p : BasePublicationFields) → 1 ≤ members h → PublishesBase (ledger_of (releases_of h parts)) moment cut (Ok p)
-      → IsRebasable moment (releases_cut cut (releases_of h parts))
-  base_rebasable p some x = rebasable_then moment cut (releases_of h parts) (history_sound h parts is) p (omega (arith, members_many h parts is, some)) x
+module _ (h : History) (moment : ℕ) (cut : Cut) (is : IsHistory h) where
+  pub base_rebasable : (p : BasePublicationFields) → 1 ≤ members h → PublishesBase (ledger_of (releases_of h)) moment cut (Ok p)
+      → IsRebasable moment (releases_cut cut (releases_of h))
+  base_rebasable p some x = rebasable_then moment cut (releases_of h) (history_sound h is) p (omega (arith, members_many h, some)) x
 
-  pub base_history : (p : BasePublicationFields) → 1 ≤ members h → PublishesBase (ledger_of (releases_of h parts)) moment cut (Ok p)
-      → IsHistory (rebased h parts moment cut []) (p.sealed ∷ [])
-  base_history p some x = (is, base_rebasable p some x, base_part moment cut (releases_of h parts) (history_sound h parts is) p x, tt)
+  pub base_history : (p : BasePublicationFields) → 1 ≤ members h → PublishesBase (ledger_of (releases_of h)) moment cut (Ok p)
+      → IsHistory (rebased h moment cut p.sealed [])
+  base_history p some x = (is, base_rebasable p some x, base_part moment cut (releases_of h) (history_sound h is) p x, tt)
 
-  pub base_ledger : (p : BasePublicationFields) → PublishesBase (ledger_of (releases_of h parts)) moment cut (Ok p)
-      → p.ledger ≡ ledger_of (releases_of (rebased h parts moment cut []) (p.sealed ∷ []))
-  base_ledger p x = base_next moment cut (releases_of h parts) (history_sound h parts is) p x
+  pub base_ledger : (p : BasePublicationFields) → PublishesBase (ledger_of (releases_of h)) moment cut (Ok p)
+      → p.ledger ≡ ledger_of (releases_of (rebased h moment cut p.sealed []))
+  base_ledger p x = base_next moment cut (releases_of h) (history_sound h is) p x
 
-  pub base_numbers : (p : BasePublicationFields) → PublishesBase (ledger_of (releases_of h parts)) moment cut (Ok p) → p.counts ≡ base_counts moment cut (releases_of h parts)
-  base_numbers p x = x.3 ∙ counts_same moment cut (releases_of h parts) (history_sound h parts is)
+  pub base_numbers : (p : BasePublicationFields) → PublishesBase (ledger_of (releases_of h)) moment cut (Ok p) → p.counts ≡ base_counts moment cut (releases_of h)
+  base_numbers p x = x.3 ∙ counts_same moment cut (releases_of h) (history_sound h is)
 
-  pub rebasable_published : IsRebasable moment (releases_cut cut (releases_of h parts)) → (p : BasePublicationFields) × PublishesBase (ledger_of (releases_of h parts)) moment cut (Ok p)
-  rebasable_published can = rebased_then moment cut (releases_of h parts) (history_sound h parts is) can
+  pub rebasable_published : IsRebasable moment (releases_cut cut (releases_of h)) → (p : BasePublicationFields) × PublishesBase (ledger_of (releases_of h)) moment cut (Ok p)
+  rebasable_published can = rebased_then moment cut (releases_of h) (history_sound h is) can

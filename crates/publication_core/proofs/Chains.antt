@@ -19,7 +19,7 @@ use Rattle.universe_core.specs.Ledgers.{part_from}
 use Rattle.universe_core.specs.Step.{kind_by, parent_by}
 use Rattle.history_core.specs.Bases.{base_with, releases_cut, base_at}
 use Rattle.store_core.specs.Chain.{Follows, IsChain}
-use Rattle.publication_core.specs.Histories.{newest_of, GoesOn, IsAdmissible, IsPartOf, IsBasePart, release_of, AreAdmissible, History, of_jobs, rebased, IsHistory, releases_of}
+use Rattle.publication_core.specs.Histories.{Published, newest_of, GoesOn, IsAdmissible, IsPartOf, IsBasePart, release_of, AreAdmissible, History, of_jobs, rebased, parts_of, members, IsHistory, releases_of}
 use Rattle.publication_core.proofs.Ledgers.{history_base_fits}
 use Rattle.publication_core.proofs.PartTexts.{newest_part, part_has_text, base_has_text}
 
@@ -31,8 +31,8 @@ record Matches (r : Release) (s : SealedFields) : Type 0 where
   ranges : r.ranges ≡ s.part.head.ranges
   trailer : r.trailer ≡ s.trailer
 
-release_matches : (rs : List Release) (job : JobIn) (s : SealedFields) → IsPartOf rs job s → Matches (release_of rs job s) s
-release_matches rs job s is = record {
+release_matches : (rs : List Release) (p : Published) → IsPartOf rs p.job p.sealed → Matches (release_of rs p) p.sealed
+release_matches rs p is = record {
   epoch = sym (ap (λ (h : HeadFields). h.epoch) is.head_is);
   ranges = sym (ap (λ (h : HeadFields). h.ranges) is.head_is);
   trailer = refl;
@@ -71,44 +71,36 @@ part_follows rs r job held given last same admissible is =
       coverage = subst (λ (old : List Range). LiesWithin old given.part.head.ranges) same.ranges (subst (λ (new : List Range). LiesWithin r.ranges new) (sym ranges) on.coverage);
     }
 
-linked_after : (rs : List Release) (r : Release) (held : SealedFields) (jobs : List JobIn) (parts : List SealedFields) → newest_of rs ≡ Some r → Matches r held → AreAdmissible rs jobs parts
-    → Linked Follows (λ held given. given) held parts
-linked_after rs r held [] [] last same h = tt
-linked_after rs r held [] (s ∷ parts) last same h = absurd h
-linked_after rs r held (job ∷ jobs) [] last same h = absurd h
-linked_after rs r held (job ∷ jobs) (s ∷ parts) last same h =
-    let made : Release = release_of rs job s in (
-      part_follows rs r job held s last same h.0 h.1,
-      linked_after (rs ++ made ∷ []) made s jobs parts (newest_pushed rs made) (release_matches rs job s h.1) h.2,
+linked_after : (rs : List Release) (r : Release) (held : SealedFields) (ps : List Published) → newest_of rs ≡ Some r → Matches r held → AreAdmissible rs ps
+    → Linked Follows (λ held given. given) held (map (λ p. p.sealed) ps)
+linked_after rs r held [] last same h = tt
+linked_after rs r held (p ∷ ps) last same h =
+    let made : Release = release_of rs p in (
+      part_follows rs r p.job held p.sealed last same h.0 h.1,
+      linked_after (rs ++ made ∷ []) made p.sealed ps (newest_pushed rs made) (release_matches rs p h.1) h.2,
     )
 
-pub history_chain : (h : History) (parts : List SealedFields) → IsHistory h parts → IsChain parts
-history_chain (of_jobs []) [] h = tt
-history_chain (of_jobs []) (s ∷ parts) h = absurd h
-history_chain (of_jobs (job ∷ jobs)) [] h = absurd h
-history_chain (of_jobs (job ∷ jobs)) (s ∷ parts) h =
-    let made : Release = release_of [] job s in
-    (ap (λ (h : HeadFields). h.kind) h.1.head_is, linked_after (made ∷ []) made s jobs parts refl (release_matches [] job s h.1) h.2)
-history_chain (rebased b old moment cut jobs) [] h = absurd h
-history_chain (rebased b old moment cut jobs) (s ∷ parts) h =
-    let base : Release = base_at moment (releases_cut cut (releases_of b old)) s.trailer in
-    (ap (λ (h : HeadFields). h.kind) h.2.head_is, linked_after (base ∷ []) base s jobs parts refl (base_matches moment (releases_cut cut (releases_of b old)) s h.2) h.3)
+pub history_chain : (h : History) → IsHistory h → IsChain (parts_of h)
+history_chain (of_jobs []) h = tt
+history_chain (of_jobs (p ∷ ps)) h =
+    let made : Release = release_of [] p in
+    (ap (λ (h : HeadFields). h.kind) h.1.head_is, linked_after (made ∷ []) made p.sealed ps refl (release_matches [] p h.1) h.2)
+history_chain (rebased b moment cut s ps) h =
+    let base : Release = base_at moment (releases_cut cut (releases_of b)) s.trailer in
+    (ap (λ (h : HeadFields). h.kind) h.2.head_is, linked_after (base ∷ []) base s ps refl (base_matches moment (releases_cut cut (releases_of b)) s h.2) h.3)
 
 -- ---- how many parts there are
 
-few_after : (rs : List Release) (jobs : List JobIn) (parts : List SealedFields) → length rs ≤ 64 → AreAdmissible rs jobs parts → length rs + length parts ≤ 64
-few_after rs [] [] few h = omega arith
-few_after rs [] (s ∷ parts) few h = absurd h
-few_after rs (job ∷ jobs) [] few h = absurd h
-few_after rs (job ∷ jobs) (s ∷ parts) few h =
+few_after : (rs : List Release) (ps : List Published) → length rs ≤ 64 → AreAdmissible rs ps → length rs + length (map (λ p. p.sealed) ps) ≤ 64
+few_after rs [] few h = omega arith
+few_after rs (p ∷ ps) few h =
     let room = h.0.few_parts in
-    let more = length-append rs (release_of rs job s ∷ []) in
-    omega (arith, room, more, few_after (rs ++ release_of rs job s ∷ []) jobs parts (omega (arith, room, more)) h.2)
+    let more = length-append rs (release_of rs p ∷ []) in
+    omega (arith, room, more, few_after (rs ++ release_of rs p ∷ []) ps (omega (arith, room, more)) h.2)
 
-pub history_few : (h : History) (parts : List SealedFields) → IsHistory h parts → length parts ≤ 64
-history_few (of_jobs jobs) parts h = omega (arith, few_after [] jobs parts (omega arith) h)
-history_few (rebased b old moment cut jobs) [] h = absurd h
-history_few (rebased b old moment cut jobs) (s ∷ parts) h = omega (arith, few_after (base_at moment (releases_cut cut (releases_of b old)) s.trailer ∷ []) jobs parts (omega arith) h.3)
+pub history_few : (h : History) → IsHistory h → members h ≤ 64
+history_few (of_jobs ps) h = omega (arith, few_after [] ps (omega arith) h)
+history_few (rebased b moment cut s ps) h = omega (arith, few_after (base_at moment (releases_cut cut (releases_of b)) s.trailer ∷ []) ps (omega arith) h.3)
 
 -- ---- the texts
 
@@ -116,25 +108,22 @@ history_few (rebased b old moment cut jobs) (s ∷ parts) h = omega (arith, few_
 abbrev EndsInDigest : List Release → Type 0
 EndsInDigest rs = IfSome (newest_of rs) (λ r. length r.trailer ≡ 32)
 
-digest_pushed : (rs : List Release) (job : JobIn) (s : SealedFields) → IsPartOf rs job s → EndsInDigest (rs ++ release_of rs job s ∷ [])
-digest_pushed rs job s is =
-    subst (λ (o : Option Release). IfSome o (λ r. length r.trailer ≡ 32)) (sym (newest_pushed rs (release_of rs job s))) (ap length is.trailer ∙ length-sha256 (unsealed_text s.part))
+digest_pushed : (rs : List Release) (p : Published) → IsPartOf rs p.job p.sealed → EndsInDigest (rs ++ release_of rs p ∷ [])
+digest_pushed rs p is =
+    subst (λ (o : Option Release). IfSome o (λ r. length r.trailer ≡ 32)) (sym (newest_pushed rs (release_of rs p))) (ap length is.trailer ∙ length-sha256 (unsealed_text p.sealed.part))
 
 base_digest : (moment : ℕ) (rs : List Release) (s : SealedFields) → IsBasePart moment rs s → EndsInDigest (base_at moment rs s.trailer ∷ [])
 unfolding base_with
 base_digest moment rs s is = ap length is.trailer ∙ length-sha256 (unsealed_text s.part)
 
-texts_after : (rs : List Release) (jobs : List JobIn) (parts : List SealedFields) → EndsInDigest rs → AreAdmissible rs jobs parts → All Fits parts
-texts_after rs [] [] digest h = All-nil Fits
-texts_after rs [] (s ∷ parts) digest h = absurd h
-texts_after rs (job ∷ jobs) [] digest h = absurd h
-texts_after rs (job ∷ jobs) (s ∷ parts) digest h =
-    All-cons Fits s parts (part_has_text rs job s h.0 h.1 digest) (texts_after (rs ++ release_of rs job s ∷ []) jobs parts (digest_pushed rs job s h.1) h.2)
+texts_after : (rs : List Release) (ps : List Published) → EndsInDigest rs → AreAdmissible rs ps → All Fits (map (λ p. p.sealed) ps)
+texts_after rs [] digest h = All-nil Fits
+texts_after rs (p ∷ ps) digest h =
+    All-cons Fits p.sealed (map (λ q. q.sealed) ps) (part_has_text rs p.job p.sealed h.0 h.1 digest) (texts_after (rs ++ release_of rs p ∷ []) ps (digest_pushed rs p h.1) h.2)
 
-pub history_texts : (h : History) (parts : List SealedFields) → IsHistory h parts → All Fits parts
-history_texts (of_jobs jobs) parts h = texts_after [] jobs parts tt h
-history_texts (rebased b old moment cut jobs) [] h = absurd h
-history_texts (rebased b old moment cut jobs) (s ∷ parts) h =
-    let rs : List Release = releases_cut cut (releases_of b old) in
-    All-cons Fits s parts (base_has_text moment rs s h.2 (history_base_fits b old moment cut s h.0 h.1 h.2))
-    (texts_after (base_at moment rs s.trailer ∷ []) jobs parts (base_digest moment rs s h.2) h.3)
+pub history_texts : (h : History) → IsHistory h → All Fits (parts_of h)
+history_texts (of_jobs ps) h = texts_after [] ps tt h
+history_texts (rebased b moment cut s ps) h =
+    let rs : List Release = releases_cut cut (releases_of b) in
+    All-cons Fits s (map (λ p. p.sealed) ps) (base_has_text moment rs s h.2 (history_base_fits b moment cut s h.0 h.1 h.2))
+    (texts_after (base_at moment rs s.trailer ∷ []) ps (base_digest moment rs s h.2) h.3)

@@ -1,9 +1,10 @@
 -- Histories with one job more, and the facts that hold after each job.
-use Rattle.std.proofs.Common.{◌≡◌, ℕ, suc, ◌+◌, List, [], ◌∷◌, ◌++◌, length, Bool, true, false, cond, not, Option, Some, refl, ap, arith}
+use Rattle.std.proofs.Common.{◌≡◌, ℕ, suc, ◌+◌, List, [], ◌∷◌, ◌++◌, map, length, Bool, true, false, cond, not, Option, Some, refl, ap, arith}
 use Rattle.std.specs.Prelude.{IsNone, IfSome}
 use Rattle.std.specs.List.{find}
 use Rattle.std.specs.Option.{option_map}
 use Rattle.std.proofs.lemmas.Bool.{and_from}
+use Rattle.std.proofs.lemmas.List.{map-append}
 use Rattle.ident_core.specs.declared.range.Range.{Range}
 use Rattle.ident_core.specs.Coverage.{lies_in_some, first_outside}
 use Rattle.ident_core.proofs.Within.{within-iff}
@@ -15,41 +16,28 @@ use Rattle.history_core.specs.Facts.{KeepsCoverage, IsSound}
 use Rattle.history_core.proofs.Bases.{base_sound}
 use Rattle.history_core.proofs.Sound.{nothing_sound, keeps_sound}
 use Rattle.history_core.proofs.Cuts.{cut_sound}
-use Rattle.publication_core.specs.Histories.{newest_of, GoesOn, IsAdmissible, IsPartOf, release_of, releases_after, AreAdmissible, History, of_jobs, rebased, members, with_job, IsHistory, releases_of}
+use Rattle.publication_core.specs.Histories.{Published, newest_of, GoesOn, IsAdmissible, IsPartOf, release_of, releases_after, AreAdmissible, History, of_jobs, rebased, parts_of, members, with_jobs, IsHistory, releases_of}
 
 -- ---- one job more
 
-history_push : (rs : List Release) (jobs : List JobIn) (parts : List SealedFields) (job : JobIn) (s : SealedFields) → AreAdmissible rs jobs parts
-    → releases_after rs (jobs ++ job ∷ []) (parts ++ s ∷ []) ≡ releases_after rs jobs parts ++ release_of (releases_after rs jobs parts) job s ∷ []
-history_push rs [] [] job s h = refl
-history_push rs [] (p ∷ parts) job s h = absurd h
-history_push rs (j ∷ jobs) [] job s h = absurd h
-history_push rs (j ∷ jobs) (p ∷ parts) job s h = history_push (rs ++ release_of rs j p ∷ []) jobs parts job s h.2
+history_push : (rs : List Release) (ps : List Published) (p : Published) → releases_after rs (ps ++ p ∷ []) ≡ releases_after rs ps ++ release_of (releases_after rs ps) p ∷ []
+history_push rs [] p = refl
+history_push rs (q ∷ ps) p = history_push (rs ++ release_of rs q ∷ []) ps p
 
-admissible_push : (rs : List Release) (jobs : List JobIn) (parts : List SealedFields) (job : JobIn) (s : SealedFields) → AreAdmissible rs jobs parts
-    → IsAdmissible (releases_after rs jobs parts) job → IsPartOf (releases_after rs jobs parts) job s → AreAdmissible rs (jobs ++ job ∷ []) (parts ++ s ∷ [])
-admissible_push rs [] [] job s h a p = (a, p, tt)
-admissible_push rs [] (q ∷ parts) job s h a p = absurd h
-admissible_push rs (j ∷ jobs) [] job s h a p = absurd h
-admissible_push rs (j ∷ jobs) (q ∷ parts) job s h a p = (h.0, h.1, admissible_push (rs ++ release_of rs j q ∷ []) jobs parts job s h.2 a p)
+admissible_push : (rs : List Release) (ps : List Published) (p : Published) → AreAdmissible rs ps → IsAdmissible (releases_after rs ps) p.job
+    → IsPartOf (releases_after rs ps) p.job p.sealed → AreAdmissible rs (ps ++ p ∷ [])
+admissible_push rs [] p h a is = (a, is, tt)
+admissible_push rs (q ∷ ps) p h a is = (h.0, h.1, admissible_push (rs ++ release_of rs q ∷ []) ps p h.2 a is)
 
 length_more : {A : Type 0} (xs : List A) (x : A) → length (xs ++ x ∷ []) ≡ suc (length xs)
 length_more [] x = refl
 length_more (y ∷ xs) x = ap suc (length_more xs x)
 
-history_length : (rs : List Release) (jobs : List JobIn) (parts : List SealedFields) → AreAdmissible rs jobs parts → length (releases_after rs jobs parts) ≡ length rs + length jobs
-history_length rs [] [] h = omega arith
-history_length rs [] (p ∷ parts) h = absurd h
-history_length rs (j ∷ jobs) [] h = absurd h
-history_length rs (j ∷ jobs) (p ∷ parts) h =
-    let more = length_more rs (release_of rs j p) in
-    omega (arith, more, history_length (rs ++ release_of rs j p ∷ []) jobs parts h.2)
-
-parts_length : (rs : List Release) (jobs : List JobIn) (parts : List SealedFields) → AreAdmissible rs jobs parts → length parts ≡ length jobs
-parts_length rs [] [] h = refl
-parts_length rs [] (p ∷ parts) h = absurd h
-parts_length rs (j ∷ jobs) [] h = absurd h
-parts_length rs (j ∷ jobs) (p ∷ parts) h = ap suc (parts_length (rs ++ release_of rs j p ∷ []) jobs parts h.2)
+history_length : (rs : List Release) (ps : List Published) → length (releases_after rs ps) ≡ length rs + length (map (λ p. p.sealed) ps)
+history_length rs [] = omega arith
+history_length rs (p ∷ ps) =
+    let more = length_more rs (release_of rs p) in
+    omega (arith, more, history_length (rs ++ release_of rs p ∷ []) ps)
 
 -- ---- each job goes on from those before it
 
@@ -69,49 +57,40 @@ follows (r ∷ []) job h = all_lie job.job.ranges r.ranges ((within-iff r.ranges
 follows (r ∷ q ∷ rs) job h = follows (q ∷ rs) job h
 
 -- The facts hold after each job that may follow.
-pub job_sound : (rs : List Release) (j : JobIn) (s : SealedFields) → IsSound rs → IsAdmissible rs j → IsSound (rs ++ release_of rs j s ∷ [])
-job_sound rs j s sound a = keeps_sound rs (facts_in j) s.trailer sound (follows rs j a.goes_on)
+pub job_sound : (rs : List Release) (p : Published) → IsSound rs → IsAdmissible rs p.job → IsSound (rs ++ release_of rs p ∷ [])
+job_sound rs p sound a = keeps_sound rs (facts_in p.job) p.sealed.trailer sound (follows rs p.job a.goes_on)
 
-after_sound : (rs : List Release) (jobs : List JobIn) (parts : List SealedFields) → IsSound rs → AreAdmissible rs jobs parts → IsSound (releases_after rs jobs parts)
-after_sound rs [] [] sound h = sound
-after_sound rs [] (p ∷ parts) sound h = absurd h
-after_sound rs (j ∷ jobs) [] sound h = absurd h
-after_sound rs (j ∷ jobs) (p ∷ parts) sound h =
-    after_sound (rs ++ release_of rs j p ∷ []) jobs parts (job_sound rs j p sound h.0) h.2
+after_sound : (rs : List Release) (ps : List Published) → IsSound rs → AreAdmissible rs ps → IsSound (releases_after rs ps)
+after_sound rs [] sound h = sound
+after_sound rs (p ∷ ps) sound h = after_sound (rs ++ release_of rs p ∷ []) ps (job_sound rs p sound h.0) h.2
 
 -- The facts hold of a base alone.
 pub base_at_sound : (moment : ℕ) (rs : List Release) (s : SealedFields) → IsSound rs → IsSound (base_at moment rs s.trailer ∷ [])
 base_at_sound moment rs s sound = base_sound (is_lasting_by moment rs) rs s.trailer sound
 
 -- The facts hold after each history.
-pub history_sound : (h : History) (parts : List SealedFields) → IsHistory h parts → IsSound (releases_of h parts)
-history_sound (of_jobs jobs) parts is = after_sound [] jobs parts nothing_sound is
-history_sound (rebased h old moment cut jobs) [] is = absurd is
-history_sound (rebased h old moment cut jobs) (s ∷ parts) is =
-    after_sound (base_at moment (releases_cut cut (releases_of h old)) s.trailer ∷ []) jobs parts (base_at_sound moment (releases_cut cut (releases_of h old)) s (cut_sound cut (releases_of h old) (history_sound h old is.0))) is.3
+pub history_sound : (h : History) → IsHistory h → IsSound (releases_of h)
+history_sound (of_jobs ps) is = after_sound [] ps nothing_sound is
+history_sound (rebased h moment cut s ps) is =
+    after_sound (base_at moment (releases_cut cut (releases_of h)) s.trailer ∷ []) ps
+    (base_at_sound moment (releases_cut cut (releases_of h)) s (cut_sound cut (releases_of h) (history_sound h is.0))) is.3
 
 -- ---- a history with a job more
 
-pub with_job_leaves : (h : History) (parts : List SealedFields) (j : JobIn) (s : SealedFields) → IsHistory h parts
-    → releases_of (with_job h j) (parts ++ s ∷ []) ≡ releases_of h parts ++ release_of (releases_of h parts) j s ∷ []
-with_job_leaves (of_jobs jobs) parts j s is = history_push [] jobs parts j s is
-with_job_leaves (rebased h old moment cut jobs) [] j s is = absurd is
-with_job_leaves (rebased h old moment cut jobs) (p ∷ parts) j s is = history_push (base_at moment (releases_cut cut (releases_of h old)) p.trailer ∷ []) jobs parts j s is.3
+pub with_job_leaves : (h : History) (p : Published) → releases_of (with_jobs h (p ∷ [])) ≡ releases_of h ++ release_of (releases_of h) p ∷ []
+with_job_leaves (of_jobs ps) p = history_push [] ps p
+with_job_leaves (rebased h moment cut s ps) p = history_push (base_at moment (releases_cut cut (releases_of h)) s.trailer ∷ []) ps p
 
-pub with_job_is : (h : History) (parts : List SealedFields) (j : JobIn) (s : SealedFields) → IsHistory h parts → IsAdmissible (releases_of h parts) j → IsPartOf (releases_of h parts) j s
-    → IsHistory (with_job h j) (parts ++ s ∷ [])
-with_job_is (of_jobs jobs) parts j s is a p = admissible_push [] jobs parts j s is a p
-with_job_is (rebased h old moment cut jobs) [] j s is a p = absurd is
-with_job_is (rebased h old moment cut jobs) (q ∷ parts) j s is a p =
-    (is.0, is.1, is.2, admissible_push (base_at moment (releases_cut cut (releases_of h old)) q.trailer ∷ []) jobs parts j s is.3 a p)
+pub with_job_is : (h : History) (p : Published) → IsHistory h → IsAdmissible (releases_of h) p.job → IsPartOf (releases_of h) p.job p.sealed → IsHistory (with_jobs h (p ∷ []))
+with_job_is (of_jobs ps) p is a part = admissible_push [] ps p is a part
+with_job_is (rebased h moment cut s ps) p is a part =
+    (is.0, is.1, is.2, admissible_push (base_at moment (releases_cut cut (releases_of h)) s.trailer ∷ []) ps p is.3 a part)
 
--- a member leaves one release, and publishes one part
-pub members_many : (h : History) (parts : List SealedFields) → IsHistory h parts → length (releases_of h parts) ≡ members h
-members_many (of_jobs jobs) parts is = omega (arith, history_length [] jobs parts is)
-members_many (rebased h old moment cut jobs) [] is = absurd is
-members_many (rebased h old moment cut jobs) (s ∷ parts) is = omega (arith, history_length (base_at moment (releases_cut cut (releases_of h old)) s.trailer ∷ []) jobs parts is.3)
+pub with_job_parts : (h : History) (p : Published) → parts_of (with_jobs h (p ∷ [])) ≡ parts_of h ++ p.sealed ∷ []
+with_job_parts (of_jobs ps) p = map-append (λ q. q.sealed) ps (p ∷ [])
+with_job_parts (rebased h moment cut s ps) p = ap (λ (ss : List SealedFields). s ∷ ss) (map-append (λ q. q.sealed) ps (p ∷ []))
 
-pub parts_many : (h : History) (parts : List SealedFields) → IsHistory h parts → length parts ≡ members h
-parts_many (of_jobs jobs) parts is = parts_length [] jobs parts is
-parts_many (rebased h old moment cut jobs) [] is = absurd is
-parts_many (rebased h old moment cut jobs) (s ∷ parts) is = omega (arith, parts_length (base_at moment (releases_cut cut (releases_of h old)) s.trailer ∷ []) jobs parts is.3)
+-- a member leaves one release
+pub members_many : (h : History) → length (releases_of h) ≡ members h
+members_many (of_jobs ps) = omega (arith, history_length [] ps)
+members_many (rebased h moment cut s ps) = omega (arith, history_length (base_at moment (releases_cut cut (releases_of h)) s.trailer ∷ []) ps)

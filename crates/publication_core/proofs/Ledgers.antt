@@ -39,7 +39,7 @@ use Rattle.ident_core.proofs.Sets.{Among-from_has, has-from_Among, Among-from_ke
 use Rattle.ident_core.proofs.Canonical.{Contains-from_Among, all_from}
 use Rattle.place_core.specs.Cuts.{Cut}
 use Rattle.universe_core.specs.Jobs.{Crl, Entry, crl_by, accepted_crl, facts_of, is_stale, crls_of, enrolled}
-use Rattle.universe_core.specs.Formats.{JobIn, read_in}
+use Rattle.universe_core.specs.Formats.{read_in}
 use Rattle.universe_core.specs.History.{Release, past_of, shown, accepted_with}
 use Rattle.universe_core.specs.Dates.{greatest, dates}
 use Rattle.universe_core.specs.Ledgers.{no_ledger, past_in, item_of, old_dates, next_item, part_after, next_ledger, part_from, ledger_of}
@@ -63,7 +63,7 @@ use Rattle.history_core.proofs.Beginnings.{ledger_of_none}
 use Rattle.history_core.proofs.Ledger as histories
 use Rattle.history_core.proofs.Sound.{nothing_sound}
 use Rattle.history_core.proofs.Cuts.{cut_sound, ledger_cut-of, many_cut}
-use Rattle.publication_core.specs.Histories.{newest_of, IsAdmissible, IsPartOf, IsRebasable, IsBasePart, release_of, releases_after, AreAdmissible, History, of_jobs, rebased, members, IsHistory, releases_of}
+use Rattle.publication_core.specs.Histories.{Published, newest_of, IsAdmissible, IsPartOf, IsRebasable, IsBasePart, release_of, releases_after, AreAdmissible, History, of_jobs, rebased, members, IsHistory, releases_of}
 use Rattle.publication_core.specs.Histories.{ledger_bytes, old_ledger_bytes, IsUndated}
 use Rattle.publication_core.proofs.Reading.{fits_in, goes_on_in, none_dated, after_undated, items_undated}
 use Rattle.publication_core.proofs.Admitting.{not_refused}
@@ -281,25 +281,21 @@ module _ (keeps : LedgerItem → Bool) (l : LedgerFields) (trailer : List ℕ) (
 -- ---- a history's ledger
 
 -- the ledger of releases and of one job more
-step_fits : (rs : List Release) (j : JobIn) (s : SealedFields) → IsSound rs → FitsBefore (ledger_of rs) → IsAdmissible rs j → IsPartOf rs j s
-    → FitsBefore (ledger_of (rs ++ release_of rs j s ∷ []))
-step_fits rs j s sound kept a part =
-    let job : JobFields = read_in j in
-    let none = not_early (ledger_of rs) job (not_refused rs job sound (record { crls = a.crls; goes_on = goes_on_in j (newest_of rs) a.goes_on; few_parts = a.few_parts; few_identities = a.few_identities })) in
+step_fits : (rs : List Release) (p : Published) → IsSound rs → FitsBefore (ledger_of rs) → IsAdmissible rs p.job → IsPartOf rs p.job p.sealed
+    → FitsBefore (ledger_of (rs ++ release_of rs p ∷ []))
+step_fits rs p sound kept a part =
+    let job : JobFields = read_in p.job in
+    let none = not_early (ledger_of rs) job (not_refused rs job sound (record { crls = a.crls; goes_on = goes_on_in p.job (newest_of rs) a.goes_on; few_parts = a.few_parts; few_identities = a.few_identities })) in
     let same : length (accepted_with (past_in (ledger_of rs)) (facts_of job)) ≡ length (accepted_with (past_of rs) (facts_of job))
     = ap (λ past. length (accepted_with past (facts_of job))) (histories.past_in_ledger rs sound) in
     let few : length (accepted_with (past_in (ledger_of rs)) (facts_of job)) ≤ 4194304 = omega (arith, same, a.few_identities) in
-    let key : IsKey s.trailer = ap length part.trailer ∙ length-sha256 (unsealed_text s.part) in
-    subst FitsBefore (histories.next_is rs sound (facts_of job) s.trailer)
-    (fits_before (next_ledger (ledger_of rs) (facts_of job) s.trailer) (next_fits (ledger_of rs) job kept (fits_in j a.fits) s.trailer key none a.limits.crls few))
+    let key : IsKey p.sealed.trailer = ap length part.trailer ∙ length-sha256 (unsealed_text p.sealed.part) in
+    subst FitsBefore (histories.next_is rs sound (facts_of job) p.sealed.trailer)
+    (fits_before (next_ledger (ledger_of rs) (facts_of job) p.sealed.trailer) (next_fits (ledger_of rs) job kept (fits_in p.job a.fits) p.sealed.trailer key none a.limits.crls few))
 
-after_fits : (rs : List Release) (jobs : List JobIn) (parts : List SealedFields) → IsSound rs → FitsBefore (ledger_of rs) → AreAdmissible rs jobs parts
-    → FitsBefore (ledger_of (releases_after rs jobs parts))
-after_fits rs [] [] sound kept h = kept
-after_fits rs [] (s ∷ parts) sound kept h = absurd h
-after_fits rs (job ∷ jobs) [] sound kept h = absurd h
-after_fits rs (job ∷ jobs) (s ∷ parts) sound kept h =
-    after_fits (rs ++ release_of rs job s ∷ []) jobs parts (job_sound rs job s sound h.0) (step_fits rs job s sound kept h.0 h.1) h.2
+after_fits : (rs : List Release) (ps : List Published) → IsSound rs → FitsBefore (ledger_of rs) → AreAdmissible rs ps → FitsBefore (ledger_of (releases_after rs ps))
+after_fits rs [] sound kept h = kept
+after_fits rs (p ∷ ps) sound kept h = after_fits (rs ++ release_of rs p ∷ []) ps (job_sound rs p sound h.0) (step_fits rs p sound kept h.0 h.1) h.2
 
 releases_many : (rs : List Release) → length (ledger_of rs).parts ≡ length rs
 unfolding ledger_of
@@ -333,43 +329,42 @@ base_fits moment cut old s sound kept can part =
     subst Fits (ledger_same (is_lasting moment) rs s.trailer (cut_sound cut old sound))
     (rebased_fits (is_lasting moment) (ledger_of rs) s.trailer fits key (few_issuers rs can.few_issuers))
 
-history_fits : (h : History) (parts : List SealedFields) → IsHistory h parts → FitsBefore (ledger_of (releases_of h parts))
-history_fits (of_jobs jobs) parts is = after_fits [] jobs parts nothing_sound (subst FitsBefore (sym ledger_of_none) none_fits) is
-history_fits (rebased h old moment cut jobs) [] is = absurd is
-history_fits (rebased h old moment cut jobs) (s ∷ parts) is =
-    let rs : List Release = releases_of h old in
+history_fits : (h : History) → IsHistory h → FitsBefore (ledger_of (releases_of h))
+history_fits (of_jobs ps) is = after_fits [] ps nothing_sound (subst FitsBefore (sym ledger_of_none) none_fits) is
+history_fits (rebased h moment cut s ps) is =
+    let rs : List Release = releases_of h in
     let rest : List Release = releases_cut cut rs in
     let base : Release = base_at moment rest s.trailer in
-    let sound : IsSound rs = history_sound h old is.0 in
-    after_fits (base ∷ []) jobs parts (base_at_sound moment rest s (cut_sound cut rs sound))
-    (fits_before (ledger_of (base ∷ [])) (base_fits moment cut rs s sound (history_fits h old is.0) is.1 is.2)) is.3
+    let sound : IsSound rs = history_sound h is.0 in
+    after_fits (base ∷ []) ps (base_at_sound moment rest s (cut_sound cut rs sound))
+    (fits_before (ledger_of (base ∷ [])) (base_fits moment cut rs s sound (history_fits h is.0) is.1 is.2)) is.3
 
 -- The ledger of the base with which a history begins fits.
-pub history_base_fits : (h : History) (old : List SealedFields) (moment : ℕ) (cut : Cut) (s : SealedFields) → IsHistory h old
-    → IsRebasable moment (releases_cut cut (releases_of h old)) → IsBasePart moment (releases_cut cut (releases_of h old)) s
-    → Fits (ledger_of (base_at moment (releases_cut cut (releases_of h old)) s.trailer ∷ []))
-history_base_fits h old moment cut s is can part = base_fits moment cut (releases_of h old) s (history_sound h old is) (history_fits h old is) can part
+pub history_base_fits : (h : History) (moment : ℕ) (cut : Cut) (s : SealedFields) → IsHistory h
+    → IsRebasable moment (releases_cut cut (releases_of h)) → IsBasePart moment (releases_cut cut (releases_of h)) s
+    → Fits (ledger_of (base_at moment (releases_cut cut (releases_of h)) s.trailer ∷ []))
+history_base_fits h moment cut s is can part = base_fits moment cut (releases_of h) s (history_sound h is) (history_fits h is) can part
 
 -- where no job reads dates, the ledger has none
-undated_by : (h : History) (parts : List SealedFields) → IsUndated h → HasNoDates (ledger_of (releases_of h parts))
-undated_by (of_jobs jobs) parts none = items_undated (releases_after [] jobs parts) (after_undated [] jobs parts none none_dated)
-undated_by (rebased h old moment cut jobs) parts none = absurd none
+undated_by : (h : History) → IsUndated h → HasNoDates (ledger_of (releases_of h))
+undated_by (of_jobs ps) none = items_undated (releases_after [] ps) (after_undated [] ps none none_dated)
+undated_by (rebased h moment cut s ps) none = absurd none
 
-module _ (h : History) (parts : List SealedFields) (is : IsHistory h parts) (some : 1 ≤ members h) where
-  pub history_ledger_fits : Fits (ledger_of (releases_of h parts))
-  history_ledger_fits = fits_of (ledger_of (releases_of h parts)) (history_fits h parts is) (omega (arith, releases_many (releases_of h parts), members_many h parts is, some))
+module _ (h : History) (is : IsHistory h) (some : 1 ≤ members h) where
+  pub history_ledger_fits : Fits (ledger_of (releases_of h))
+  history_ledger_fits = fits_of (ledger_of (releases_of h)) (history_fits h is) (omega (arith, releases_many (releases_of h), members_many h, some))
 
-  pub history_ledger_read : ledger (ledger_bytes h parts) 0 ≡ Ok (ledger_of (releases_of h parts), length (ledger_bytes h parts))
-  history_ledger_read = ledger-again (ledger_of (releases_of h parts)) history_ledger_fits
+  pub history_ledger_read : ledger (ledger_bytes h) 0 ≡ Ok (ledger_of (releases_of h), length (ledger_bytes h))
+  history_ledger_read = ledger-again (ledger_of (releases_of h)) history_ledger_fits
 
-  pub history_undated : IsUndated h → HasNoDates (ledger_of (releases_of h parts))
-  history_undated none = undated_by h parts none
+  pub history_undated : IsUndated h → HasNoDates (ledger_of (releases_of h))
+  history_undated none = undated_by h none
 
-  pub history_old_read : IsUndated h → ledger (old_ledger_bytes h parts) 0 ≡ Ok (ledger_of (releases_of h parts), length (old_ledger_bytes h parts))
-  history_old_read none = old-again (ledger_of (releases_of h parts)) history_ledger_fits (history_undated none)
+  pub history_old_read : IsUndated h → ledger (old_ledger_bytes h) 0 ≡ Ok (ledger_of (releases_of h), length (old_ledger_bytes h))
+  history_old_read none = old-again (ledger_of (releases_of h)) history_ledger_fits (history_undated none)
 
-  pub history_old_value : IsUndated h → ledger_of_bytes (old_ledger_bytes h parts) ≡ Ok (ledger_of (releases_of h parts))
+  pub history_old_value : IsUndated h → ledger_of_bytes (old_ledger_bytes h) ≡ Ok (ledger_of (releases_of h))
   history_old_value none = ap (λ r. value_of (with_fault ledger_faults.Layout r)) (history_old_read none)
 
-  pub history_ledger_value : ledger_of_bytes (ledger_bytes h parts) ≡ Ok (ledger_of (releases_of h parts))
+  pub history_ledger_value : ledger_of_bytes (ledger_bytes h) ≡ Ok (ledger_of (releases_of h))
   history_ledger_value = ap (λ r. value_of (with_fault ledger_faults.Layout r)) history_ledger_read

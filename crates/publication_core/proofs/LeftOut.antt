@@ -21,7 +21,7 @@ use Rattle.universe_core.proofs.Enrolled.{enrolled_test}
 use Rattle.history_core.specs.Bases.{is_lasting_by, releases_cut, base_at}
 use Rattle.history_core.specs.Showing.{Shows}
 use Rattle.history_core.proofs.Returning.{base_unenrolled, entry_seen}
-use Rattle.publication_core.specs.Histories.{release_of, releases_after, History, of_jobs, rebased, with_job, IsHistory, releases_of, LeavesOut}
+use Rattle.publication_core.specs.Histories.{Published, release_of, releases_after, History, of_jobs, rebased, with_job, IsHistory, parts_of, releases_of, LeavesOut}
 use Rattle.publication_core.proofs.Histories.{with_job_leaves}
 use Rattle.publication_core.proofs.Shown.{shown_by}
 use Rattle.publication_core.proofs.Verdicts.{parts_shown}
@@ -31,23 +31,21 @@ use Rattle.publication_core.proofs.Verdicts.{parts_shown}
 abbrev Unenrolled : List ℕ → List Release → Type 0
 Unenrolled k rs = (r : Release) → Among rs r → has_key r.issuers k ≡ false
 
-after_unenrolled : (k : List ℕ) (rs : List Release) (jobs : List JobIn) (parts : List SealedFields) → Unenrolled k rs
-    → ((j : JobIn) → Among jobs j → is_enrolled (facts_in j) k ≡ false) → Unenrolled k (releases_after rs jobs parts)
-after_unenrolled k rs [] parts u n = u
-after_unenrolled k rs (j ∷ jobs) [] u n = u
-after_unenrolled k rs (j ∷ jobs) (s ∷ parts) u n =
-    after_unenrolled k (rs ++ release_of rs j s ∷ []) jobs parts
-    (λ r a. ⊎_elim (λ old. u r old) (λ e. subst (λ (z : Release). has_key z.issuers k ≡ false) e (enrolled_test (facts_in j) k ∙ n j (inl refl))) (Among-push_cases rs (release_of rs j s) r a))
+after_unenrolled : (k : List ℕ) (rs : List Release) (ps : List Published) → Unenrolled k rs
+    → ((p : Published) → Among ps p → is_enrolled (facts_in p.job) k ≡ false) → Unenrolled k (releases_after rs ps)
+after_unenrolled k rs [] u n = u
+after_unenrolled k rs (p ∷ ps) u n =
+    after_unenrolled k (rs ++ release_of rs p ∷ []) ps
+    (λ r a. ⊎_elim (λ old. u r old) (λ e. subst (λ (z : Release). has_key z.issuers k ≡ false) e (enrolled_test (facts_in p.job) k ∙ n p (inl refl))) (Among-push_cases rs (release_of rs p) r a))
     (λ i a. n i (inr a))
 
-no_release : (h : History) (parts : List SealedFields) (k : List ℕ) → IsHistory h parts → LeavesOut h k → Unenrolled k (releases_of h parts)
-no_release (of_jobs jobs) parts k is left = absurd left
-no_release (rebased h old moment cut jobs) [] k is left = absurd is
-no_release (rebased h old moment cut jobs) (s ∷ parts) k is left =
-    let rest : List Release = releases_cut cut (releases_of h old) in
+no_release : (h : History) (k : List ℕ) → LeavesOut h k → Unenrolled k (releases_of h)
+no_release (of_jobs ps) k left = absurd left
+no_release (rebased h moment cut s ps) k left =
+    let rest : List Release = releases_cut cut (releases_of h) in
     let base : Release = base_at moment rest s.trailer in
-    after_unenrolled k (base ∷ []) jobs parts
-    (λ r a. ⊎_elim (λ e. subst (λ (z : Release). has_key z.issuers k ≡ false) e (base_unenrolled (is_lasting_by moment rest) cut (releases_of h old) s.trailer k left.0)) (λ n. absurd n) a)
+    after_unenrolled k (base ∷ []) ps
+    (λ r a. ⊎_elim (λ e. subst (λ (z : Release). has_key z.issuers k ≡ false) e (base_unenrolled (is_lasting_by moment rest) cut (releases_of h) s.trailer k left.0)) (λ n. absurd n) a)
     left.1
 
 -- ---- what the parts say
@@ -75,19 +73,19 @@ none_consulted x ss (p ∷ ps) h =
     (λ n. h q (inr (Among-filter (covers_some ss) ps q n).0)) a))
     (none_consulted x ss ps (λ q a. h q (inr a)))
 
-pub left_out_verdict : (h : History) (parts : List SealedFields) (x : Identity) (ss : List Sighting) → IsHistory h parts → LeavesOut h x.issuer
-    → verdict (map (λ t. t.part) parts) x ss ≡ cond (list_any (covers_some ss) (map (λ t. t.part) parts)) NotEnrolled NotCovered
-left_out_verdict h parts x ss is left =
-    none_consulted x ss (map (λ (t : SealedFields). t.part) parts) (λ p a.
-    let z = zip_left Shows (map shown_by (map (λ (t : SealedFields). t.part) parts)) (releases_of h parts) (shown_by p) (parts_shown h parts is)
-    (Among-in_map shown_by (map (λ (t : SealedFields). t.part) parts) p a) in
-    z.2.other x (no_release h parts x.issuer is left z.0 z.1))
+pub left_out_verdict : (h : History) (x : Identity) (ss : List Sighting) → IsHistory h → LeavesOut h x.issuer
+    → verdict (map (λ t. t.part) (parts_of h)) x ss ≡ cond (list_any (covers_some ss) (map (λ t. t.part) (parts_of h))) NotEnrolled NotCovered
+left_out_verdict h x ss is left =
+    none_consulted x ss (map (λ (t : SealedFields). t.part) (parts_of h)) (λ p a.
+    let z = zip_left Shows (map shown_by (map (λ (t : SealedFields). t.part) (parts_of h))) (releases_of h) (shown_by p) (parts_shown h is)
+    (Among-in_map shown_by (map (λ (t : SealedFields). t.part) (parts_of h)) p a) in
+    z.2.other x (no_release h x.issuer left z.0 z.1))
 
 -- ---- what the next job accepts
 
-pub comes_back : (h : History) (parts : List SealedFields) (j : JobIn) (s : SealedFields) (e : Entry) → IsHistory h parts → LeavesOut h e.id.issuer
+pub comes_back : (h : History) (j : JobIn) (s : SealedFields) (e : Entry) → LeavesOut h e.id.issuer
     → Among (facts_in j).entries (Some e) → covers (facts_in j).ranges e.sighting ≡ true → is_enrolled (facts_in j) e.id.issuer ≡ true
-    → Among (seen (releases_of (with_job h j) (parts ++ s ∷ []))) e
-comes_back h parts j s e is left a v k =
-    subst (λ (rs : List Release). Among (seen rs) e) (sym (with_job_leaves h parts j s is))
-    (entry_seen (releases_of h parts) (facts_in j) s.trailer e (no_release h parts e.id.issuer is left) a v (enrolled_test (facts_in j) e.id.issuer ∙ k))
+    → Among (seen (releases_of (with_job h j s))) e
+comes_back h j s e left a v k =
+    subst (λ (rs : List Release). Among (seen rs) e) (sym (with_job_leaves h (record { job = j; sealed = s })))
+    (entry_seen (releases_of h) (facts_in j) s.trailer e (no_release h e.id.issuer left) a v (enrolled_test (facts_in j) e.id.issuer ∙ k))

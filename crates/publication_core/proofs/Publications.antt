@@ -1,5 +1,5 @@
 -- What is published behind the ledger of a history is that of the history.
-use Rattle.std.proofs.Common.{◌≡◌, List, [], ◌∷◌, ◌++◌, map, length, None, Ok, refl, sym, ap, ◌∙◌, subst, arith}
+use Rattle.std.proofs.Common.{◌≡◌, List, [], map, length, None, Ok, refl, sym, ap, ◌∙◌, subst, arith}
 use Rattle.sha2.specs.Sha256.{sha256}
 use Rattle.equation_core.specs.Rows.{sha256_row}
 use Rattle.card_core.specs.PartFields.{PartFields}
@@ -69,33 +69,33 @@ admissible_then rs job p sound fits limits x =
       blocks = (p.sealed.part.blocks, (part_of_history rs job p.sealed sound x.1).blocks);
     }
 
-module _ (h : History) (parts : List SealedFields) (job : JobFields) (is : IsHistory h parts) where
-  pub published_admissible : (p : PublicationFields) → FitsPublishing job → IsWithinLimits PUBLISHED job → Publishes (ledger_of (releases_of h parts)) job (Ok p)
-      → IsAdmissible (releases_of h parts) (in_format current job)
-  published_admissible p fits limits x = admissible_then (releases_of h parts) job p (history_sound h parts is) fits limits x
+module _ (h : History) (job : JobFields) (is : IsHistory h) where
+  pub published_admissible : (p : PublicationFields) → FitsPublishing job → IsWithinLimits PUBLISHED job → Publishes (ledger_of (releases_of h)) job (Ok p)
+      → IsAdmissible (releases_of h) (in_format current job)
+  published_admissible p fits limits x = admissible_then (releases_of h) job p (history_sound h is) fits limits x
 
-  pub published_history : (p : PublicationFields) → FitsPublishing job → IsWithinLimits PUBLISHED job → Publishes (ledger_of (releases_of h parts)) job (Ok p)
-      → IsHistory (with_job h (in_format current job)) (parts ++ p.sealed ∷ [])
+  pub published_history : (p : PublicationFields) → FitsPublishing job → IsWithinLimits PUBLISHED job → Publishes (ledger_of (releases_of h)) job (Ok p)
+      → IsHistory (with_job h (in_format current job) p.sealed)
   published_history p fits limits x =
-      with_job_is h parts (in_format current job) p.sealed is (published_admissible p fits limits x) (part_of_history (releases_of h parts) job p.sealed (history_sound h parts is) x.1)
+      with_job_is h (record { job = in_format current job; sealed = p.sealed }) is (published_admissible p fits limits x) (part_of_history (releases_of h) job p.sealed (history_sound h is) x.1)
 
-  pub published_ledger : (p : PublicationFields) → Publishes (ledger_of (releases_of h parts)) job (Ok p) → p.ledger ≡ ledger_of (releases_of (with_job h (in_format current job)) (parts ++ p.sealed ∷ []))
+  pub published_ledger : (p : PublicationFields) → Publishes (ledger_of (releases_of h)) job (Ok p) → p.ledger ≡ ledger_of (releases_of (with_job h (in_format current job) p.sealed))
   published_ledger p x =
-      x.3 ∙ next_is (releases_of h parts) (history_sound h parts is) (facts_of job) p.sealed.trailer ∙ ap ledger_of (sym (with_job_leaves h parts (in_format current job) p.sealed is))
+      x.3 ∙ next_is (releases_of h) (history_sound h is) (facts_of job) p.sealed.trailer ∙ ap ledger_of (sym (with_job_leaves h (record { job = in_format current job; sealed = p.sealed })))
 
-  pub published_counts : (p : PublicationFields) → Publishes (ledger_of (releases_of h parts)) job (Ok p) → p.counts ≡ counts (past_of (releases_of h parts)) (facts_of job)
-  published_counts p x = x.4 ∙ counts_are (releases_of h parts) (history_sound h parts is) (facts_of job)
+  pub published_counts : (p : PublicationFields) → Publishes (ledger_of (releases_of h)) job (Ok p) → p.counts ≡ counts (past_of (releases_of h)) (facts_of job)
+  published_counts p x = x.4 ∙ counts_are (releases_of h) (history_sound h is) (facts_of job)
 
-  pub published_place : (p : PublicationFields) → Publishes (ledger_of (releases_of h parts)) job (Ok p) → p.place ≡ members h
+  pub published_place : (p : PublicationFields) → Publishes (ledger_of (releases_of h)) job (Ok p) → p.place ≡ members h
   published_place p x =
-      let many = parts_many (releases_of h parts) job (history_sound h parts is) in
-      omega (arith, x.2, many, members_many h parts is)
+      let many = parts_many (releases_of h) job (history_sound h is) in
+      omega (arith, x.2, many, members_many h)
 
   -- An admissible job is published.
-  pub admissible_published : IsAdmissible (releases_of h parts) (in_format current job) → (p : PublicationFields) × Publishes (ledger_of (releases_of h parts)) job (Ok p)
+  pub admissible_published : IsAdmissible (releases_of h) (in_format current job) → (p : PublicationFields) × Publishes (ledger_of (releases_of h)) job (Ok p)
   admissible_published a =
-      let rs : List Release = releases_of h parts in
-      let sound : IsSound rs = history_sound h parts is in
+      let rs : List Release = releases_of h in
+      let sound : IsSound rs = history_sound h is in
       admitted_published (ledger_of rs) job
       (not_refused rs job sound (record { crls = a.crls; goes_on = a.goes_on; few_parts = a.few_parts; few_identities = a.few_identities }))
       (subst (HaveBlocks current) (sym (groups_are rs sound (facts_of job) [])) a.blocks)

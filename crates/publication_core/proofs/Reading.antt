@@ -5,7 +5,6 @@ use Rattle.std.specs.Option.{option_map}
 use Rattle.std.proofs.lemmas.Bool.{true≢false}
 use Rattle.std.proofs.lemmas.List.Elements.{All-map, All-head, All-tail}
 use Rattle.ident_core.specs.declared.identity.Identity.{Identity}
-use Rattle.part_text.specs.SealedFields.{SealedFields}
 use Rattle.job_core.specs.Fitting.{EntryFieldsFit, FitsPublishing}
 use Rattle.ledger_core.specs.declared.fields.LedgerItem.{LedgerItem}
 use Rattle.ledger_core.specs.LedgerText.{HasNoDates}
@@ -20,7 +19,7 @@ use Rattle.universe_core.proofs.Greatest.{greatest_is, greatest_keeps}
 use Rattle.universe_core.proofs.Members.{Among-dates}
 use Rattle.history_core.proofs.Accepting.{shown_entry}
 use Rattle.history_core.proofs.Releases.{seen-push}
-use Rattle.publication_core.specs.Histories.{GoesOn, release_of, releases_after}
+use Rattle.publication_core.specs.Histories.{Published, GoesOn, release_of, releases_after}
 
 -- ---- what a job keeps as its format reads it
 
@@ -69,12 +68,11 @@ more_undated rs j trailer undated_in h = λ e a.
     ⊎_elim (λ old. h e old) (λ n. entry_undated (reads_dates j.format) j.job.entries e undated_in (shown_entry (past_of rs) (facts_in j) e n))
     (Among-cases (seen rs) (shown (past_of rs) (facts_in j)) e (subst (λ (es : List Entry). Among es e) (seen-push rs (released (past_of rs) (facts_in j) trailer)) a))
 
-pub after_undated : (rs : List Release) (jobs : List JobIn) (parts : List SealedFields) → All (λ j. reads_dates j.format ≡ false) jobs → NoDates rs → NoDates (releases_after rs jobs parts)
-after_undated rs [] parts none h = h
-after_undated rs (j ∷ jobs) [] none h = h
-after_undated rs (j ∷ jobs) (s ∷ parts) none h =
-    after_undated (rs ++ release_of rs j s ∷ []) jobs parts (All-tail (λ (i : JobIn). reads_dates i.format ≡ false) j jobs none)
-    (more_undated rs j s.trailer (All-head (λ (i : JobIn). reads_dates i.format ≡ false) j jobs none) h)
+pub after_undated : (rs : List Release) (ps : List Published) → All (λ p. reads_dates p.job.format ≡ false) ps → NoDates rs → NoDates (releases_after rs ps)
+after_undated rs [] none h = h
+after_undated rs (p ∷ ps) none h =
+    after_undated (rs ++ release_of rs p ∷ []) ps (All-tail (λ (q : Published). reads_dates q.job.format ≡ false) p ps none)
+    (more_undated rs p.job p.sealed.trailer (All-head (λ (q : Published). reads_dates q.job.format ≡ false) p ps none) h)
 
 -- ---- their ledger
 

@@ -17,7 +17,7 @@ use Rattle.ident_core.specs.Sets.{has, has_key}
 use Rattle.ident_core.proofs.Elements.{Among-in_filter, bool_same}
 use Rattle.ident_core.proofs.Sets.{Among-from_has, bytes_same, bytes_refl}
 use Rattle.ident_core.proofs.Canonical.{Contains-from_Among}
-use Rattle.universe_core.specs.Formats.{JobIn, dated}
+use Rattle.universe_core.specs.Formats.{dated}
 use Rattle.universe_core.specs.History.{Release}
 use Rattle.universe_core.specs.Groups.{members_of, group_of, groups}
 use Rattle.history_core.specs.Bases.{base_with, base_at}
@@ -26,7 +26,7 @@ use Rattle.builder_core.specs.declared.format.Format.{Format}
 use Rattle.builder_core.specs.Building.{IsGroupBlock, AreGroupBlocks}
 use Rattle.builder_core.proofs.GroupBlocks.{group_exact as exact_in}
 use Rattle.publication_core.specs.Formats.{blocks_in}
-use Rattle.publication_core.specs.Histories.{IsPartOf, IsBasePart, release_of}
+use Rattle.publication_core.specs.Histories.{Published, IsPartOf, IsBasePart, release_of}
 
 -- what a part is to its reader
 abbrev pub shown_by : PartFields → PartView
@@ -98,9 +98,9 @@ module _ (format : Format) where
     some = λ x h. says r x (has_key r.issuers x.issuer) (block_of x.issuer part.blocks) h (find_block r x.issuer r.issuers part.blocks are);
   }
 
-pub part_shows : (rs : List Release) (j : JobIn) (s : SealedFields) → IsPartOf rs j s → Shows (shown_by s.part) (release_of rs j s)
+pub part_shows : (rs : List Release) (p : Published) → IsPartOf rs p.job p.sealed → Shows (shown_by p.sealed.part) (release_of rs p)
 unfolding groups
-part_shows rs j s is = blocks_show (blocks_in j.format) s.part (release_of rs j s) (ap (λ (head : HeadFields). head.ranges) is.head_is) is.blocks
+part_shows rs p is = blocks_show (blocks_in p.job.format) p.sealed.part (release_of rs p) (ap (λ (head : HeadFields). head.ranges) is.head_is) is.blocks
 
 -- the part of a base shows the base
 pub base_shows : (moment : ℕ) (rs : List Release) (s : SealedFields) → IsBasePart moment rs s → Shows (shown_by s.part) (base_at moment rs s.trailer)

@@ -1,5 +1,5 @@
 -- A job has one part at most, and one thing comes of it behind a ledger.
-use Rattle.std.proofs.Common.{◌≡◌, ℕ, List, [], ◌∷◌, ◌++◌, Option, Some, None, Result, Ok, Err, refl, sym, ap, ◌∙◌, subst}
+use Rattle.std.proofs.Common.{◌≡◌, ℕ, List, [], ◌∷◌, ◌++◌, map, Option, Some, None, Result, Ok, Err, refl, sym, ap, ◌∙◌, subst}
 use Rattle.sha2.specs.Sha256.{sha256}
 use Rattle.ident_core.specs.HeadFields.{HeadFields}
 use Rattle.equation_core.specs.Rows.{sha256_row}
@@ -9,6 +9,7 @@ use Rattle.part_text.specs.PartText.{unsealed_text}
 use Rattle.job_core.specs.declared.bounds.TheConstants.Limits.{PUBLISHED}
 use Rattle.job_core.specs.JobFields.{JobFields}
 use Rattle.ledger_core.specs.LedgerFields.{LedgerFields}
+use Rattle.place_core.specs.Cuts.{Cut}
 use Rattle.universe_core.specs.declared.fault.AdmitFault.{AdmitFault}
 use Rattle.universe_core.specs.Jobs.{facts_of}
 use Rattle.universe_core.specs.Formats.{JobFormat, JobIn, dated, facts_in}
@@ -22,7 +23,7 @@ use Rattle.builder_core.proofs.FirstRefused.{refused_no_blocks, first_refused_on
 use Rattle.publication_core.specs.declared.fault.PublishFault.{PublishFault}
 use Rattle.publication_core.specs.declared.fault.PublishFault.TheVariants.{Admission, SeedsExhausted, NoMemory}
 use Rattle.publication_core.specs.Formats.{current, blocks_in}
-use Rattle.publication_core.specs.Histories.{groups_of, IsPartOf, release_of, AreAdmissible, base_groups, IsBasePart, History, of_jobs, rebased, IsHistory, releases_of}
+use Rattle.publication_core.specs.Histories.{Published, groups_of, IsPartOf, release_of, AreAdmissible, base_groups, IsBasePart, History, of_jobs, rebased, Course, from_jobs, from_base, course_of, IsHistory, releases_of}
 use Rattle.publication_core.specs.Building.{IsSealedPart}
 use Rattle.publication_core.specs.Publishing.{PublicationFields, Publishes}
 
@@ -39,26 +40,42 @@ part_unique rs j a b x y = sealed_same j.format _ (groups_of rs (facts_in j)) a 
 base_unique : (moment : ℕ) (rs : List Release) (a b : SealedFields) → IsBasePart moment rs a → IsBasePart moment rs b → a ≡ b
 base_unique moment rs a b x y = sealed_same dated (base_head rs) (base_groups moment rs) a b x y
 
-after_unique : (rs : List Release) (jobs : List JobIn) (a b : List SealedFields) → AreAdmissible rs jobs a → AreAdmissible rs jobs b → a ≡ b
-after_unique rs [] [] [] x y = refl
-after_unique rs [] [] (t ∷ b) x y = absurd y
-after_unique rs [] (s ∷ a) b x y = absurd x
-after_unique rs (j ∷ jobs) [] b x y = absurd x
-after_unique rs (j ∷ jobs) (s ∷ a) [] x y = absurd y
-after_unique rs (j ∷ jobs) (s ∷ a) (t ∷ b) x y =
-    let same : s ≡ t = part_unique rs j s t x.1 y.1 in
-    let rest : a ≡ b = after_unique (rs ++ release_of rs j s ∷ []) jobs a b x.2 (subst (λ z. AreAdmissible (rs ++ release_of rs j z ∷ []) jobs b) (sym same) y.2) in
+jobs_unique : (rs : List Release) (ps qs : List Published) → AreAdmissible rs ps → AreAdmissible rs qs → map (λ p. p.job) ps ≡ map (λ p. p.job) qs → ps ≡ qs
+jobs_unique rs [] [] x y e = refl
+jobs_unique rs [] (q ∷ qs) x y e = absurd cc
+jobs_unique rs (p ∷ ps) [] x y e = absurd cc
+jobs_unique rs (p ∷ ps) (q ∷ qs) x y e =
+    let heads : p.job ≡ q.job = cc in
+    let tails : map (λ p. p.job) ps ≡ map (λ p. p.job) qs = cc in
+    let sealed : p.sealed ≡ q.sealed = part_unique rs q.job p.sealed q.sealed (subst (λ (j : JobIn). IsPartOf rs j p.sealed) heads x.1) y.1 in
+    let same : p ≡ q = λ i. record { job = heads i; sealed = sealed i } in
+    let rest : ps ≡ qs = jobs_unique (rs ++ release_of rs p ∷ []) ps qs x.2 (subst (λ z. AreAdmissible (rs ++ release_of rs z ∷ []) qs) (sym same) y.2) tails in
     λ i. same i ∷ rest i
 
-pub history_unique : (h : History) (a b : List SealedFields) → IsHistory h a → IsHistory h b → a ≡ b
-history_unique (of_jobs jobs) a b x y = after_unique [] jobs a b x y
-history_unique (rebased h old moment cut jobs) [] b x y = absurd x
-history_unique (rebased h old moment cut jobs) (s ∷ a) [] x y = absurd y
-history_unique (rebased h old moment cut jobs) (s ∷ a) (t ∷ b) x y =
-    let rs : List Release = releases_cut cut (releases_of h old) in
-    let same : s ≡ t = base_unique moment rs s t x.2 y.2 in
-    let rest : a ≡ b = after_unique (base_at moment rs s.trailer ∷ []) jobs a b x.3 (subst (λ z. AreAdmissible (base_at moment rs z.trailer ∷ []) jobs b) (sym same) y.3) in
-    λ i. same i ∷ rest i
+pub same_jobs : (a b : List JobIn) → from_jobs a ≡ from_jobs b → a ≡ b
+same_jobs a b e = cc
+
+-- the same base, and behind it the same jobs
+pub same_bases : (c d : Course) (m n : ℕ) (v w : Cut) (a b : List JobIn) → from_base c m v a ≡ from_base d n w b → (c ≡ d) × (m ≡ n) × (v ≡ w) × (a ≡ b)
+same_bases c d m n v w a b e = (cc, cc, cc, cc)
+
+-- a base has one part, and the jobs behind it have theirs
+behind_unique : (h : History) (m : ℕ) (v : Cut) (s t : SealedFields) (ps qs : List Published) → IsHistory (rebased h m v s ps) → IsHistory (rebased h m v t qs)
+    → map (λ p. p.job) ps ≡ map (λ p. p.job) qs → rebased h m v s ps ≡ rebased h m v t qs
+behind_unique h m v s t ps qs x y e =
+    let rs : List Release = releases_cut v (releases_of h) in
+    let same : s ≡ t = base_unique m rs s t x.2 y.2 in
+    let rest : ps ≡ qs = jobs_unique (base_at m rs s.trailer ∷ []) ps qs x.3 (subst (λ z. AreAdmissible (base_at m rs z.trailer ∷ []) qs) (sym same) y.3) e in
+    λ i. rebased h m v (same i) (rest i)
+
+pub history_unique : (g h : History) → IsHistory g → IsHistory h → course_of g ≡ course_of h → g ≡ h
+history_unique (of_jobs ps) (of_jobs qs) x y e = ap of_jobs (jobs_unique [] ps qs x y (same_jobs (map (λ p. p.job) ps) (map (λ p. p.job) qs) e))
+history_unique (of_jobs ps) (rebased h m v s qs) x y e = absurd cc
+history_unique (rebased g m v s ps) (of_jobs qs) x y e = absurd cc
+history_unique (rebased g m v s ps) (rebased h n w t qs) x y e =
+    let same = same_bases (course_of g) (course_of h) m n v w (map (λ p. p.job) ps) (map (λ p. p.job) qs) e in
+    let before : rebased g m v s ps ≡ rebased h n w s ps = λ i. rebased (history_unique g h x.0 y.0 same.0 i) (same.1 i) (same.2 i) s ps in
+    before ∙ behind_unique h n w s t ps qs (subst IsHistory before x) y same.3
 
 -- ---- what comes of a job behind a ledger
 

@@ -12,7 +12,6 @@ use Rattle.part_text.specs.SealedFields.{SealedFields}
 use Rattle.ident_core.specs.Among.{Among}
 use Rattle.ident_core.specs.Sets.{has}
 use Rattle.place_core.specs.Cuts.{Cut, is_kept}
-use Rattle.universe_core.specs.Formats.{JobIn}
 use Rattle.universe_core.specs.History.{Release, seen, sightings}
 use Rattle.history_core.specs.Bases.{kept_by, is_lasting_by, releases_cut, base_at}
 use Rattle.history_core.specs.Facts.{IsSound}
@@ -23,7 +22,7 @@ use Rattle.history_core.proofs.Cuts.{sightings_cut, listed_cut, kept_cut}
 use Rattle.history_core.proofs.Words.{zip_push}
 use Rattle.card_core.specs.declared.verdict.Verdict.TheVariants.{Good, Revoked}
 use Rattle.card_core.specs.Verdict.{covering, answers, by_answers, by_covering, verdict}
-use Rattle.publication_core.specs.Histories.{release_of, releases_after, AreAdmissible, History, of_jobs, rebased, IsHistory, releases_of}
+use Rattle.publication_core.specs.Histories.{Published, release_of, releases_after, AreAdmissible, History, of_jobs, rebased, IsHistory, parts_of, releases_of}
 use Rattle.publication_core.specs.Truth.{truth}
 use Rattle.publication_core.proofs.Histories.{history_sound}
 use Rattle.publication_core.proofs.Shown.{shown_by, part_shows, base_shows}
@@ -55,41 +54,39 @@ verdict_is_truth parts rs x s ss sound shows asked =
 -- ---- the parts of a history show what its members leave
 
 -- behind views that show the releases before
-after_shown : (views : List PartView) (rs : List Release) (jobs : List JobIn) (parts : List SealedFields) → AllZip Shows views rs → AreAdmissible rs jobs parts
-    → AllZip Shows (views ++ map shown_by (map (λ s. s.part) parts)) (releases_after rs jobs parts)
-after_shown views rs [] [] z h = rw append-nil z
-after_shown views rs [] (s ∷ parts) z h = absurd h
-after_shown views rs (job ∷ jobs) [] z h = absurd h
-after_shown views rs (job ∷ jobs) (s ∷ parts) z h =
-    let after : List Release = rs ++ release_of rs job s ∷ [] in
-    let pushed : AllZip Shows (views ++ shown_by s.part ∷ []) after = zip_push Shows views rs (shown_by s.part) (release_of rs job s) z (part_shows rs job s h.1) in
-    subst (λ (vs : List PartView). AllZip Shows vs (releases_after after jobs parts)) (append_assoc views (shown_by s.part ∷ []) (map shown_by (map (λ t. t.part) parts)))
-    (after_shown (views ++ shown_by s.part ∷ []) after jobs parts pushed h.2)
+after_shown : (views : List PartView) (rs : List Release) (ps : List Published) → AllZip Shows views rs → AreAdmissible rs ps
+    → AllZip Shows (views ++ map shown_by (map (λ s. s.part) (map (λ p. p.sealed) ps))) (releases_after rs ps)
+after_shown views rs [] z h = rw append-nil z
+after_shown views rs (p ∷ ps) z h =
+    let view : PartView = shown_by p.sealed.part in
+    let after : List Release = rs ++ release_of rs p ∷ [] in
+    let pushed : AllZip Shows (views ++ view ∷ []) after = zip_push Shows views rs view (release_of rs p) z (part_shows rs p h.1) in
+    subst (λ (vs : List PartView). AllZip Shows vs (releases_after after ps)) (append_assoc views (view ∷ []) (map shown_by (map (λ t. t.part) (map (λ p. p.sealed) ps))))
+    (after_shown (views ++ view ∷ []) after ps pushed h.2)
 
-pub parts_shown : (h : History) (parts : List SealedFields) → IsHistory h parts → AllZip Shows (map shown_by (map (λ t. t.part) parts)) (releases_of h parts)
-parts_shown (of_jobs jobs) parts is = after_shown [] [] jobs parts tt is
-parts_shown (rebased h old moment cut jobs) [] is = absurd is
-parts_shown (rebased h old moment cut jobs) (s ∷ parts) is =
-    after_shown (shown_by s.part ∷ []) (base_at moment (releases_cut cut (releases_of h old)) s.trailer ∷ []) jobs parts
-    (base_shows moment (releases_cut cut (releases_of h old)) s is.2, tt) is.3
+pub parts_shown : (h : History) → IsHistory h → AllZip Shows (map shown_by (map (λ t. t.part) (parts_of h))) (releases_of h)
+parts_shown (of_jobs ps) is = after_shown [] [] ps tt is
+parts_shown (rebased h moment cut s ps) is =
+    after_shown (shown_by s.part ∷ []) (base_at moment (releases_cut cut (releases_of h)) s.trailer ∷ []) ps
+    (base_shows moment (releases_cut cut (releases_of h)) s is.2, tt) is.3
 
 -- The parts of a history answer its truth, asked with accepted sightings.
-pub history_verdict : (h : History) (parts : List SealedFields) (x : Identity) (ss : List Sighting) → IsHistory h parts → 1 ≤ length ss
-    → ((s : Sighting) → Among ss s → Among (sightings x (seen (releases_of h parts))) s) → verdict (map (λ s. s.part) parts) x ss ≡ truth (releases_of h parts) x
-history_verdict h parts x [] is some asked = absurd (omega arith)
-history_verdict h parts x (s ∷ ss) is some asked =
-    verdict_is_truth (map (λ t. t.part) parts) (releases_of h parts) x s ss (history_sound h parts is) (parts_shown h parts is) asked
+pub history_verdict : (h : History) (x : Identity) (ss : List Sighting) → IsHistory h → 1 ≤ length ss
+    → ((s : Sighting) → Among ss s → Among (sightings x (seen (releases_of h))) s) → verdict (map (λ s. s.part) (parts_of h)) x ss ≡ truth (releases_of h) x
+history_verdict h x [] is some asked = absurd (omega arith)
+history_verdict h x (s ∷ ss) is some asked =
+    verdict_is_truth (map (λ t. t.part) (parts_of h)) (releases_of h) x s ss (history_sound h is) (parts_shown h is) asked
 
 -- A rebase keeps the verdicts of what it keeps.
-pub base_verdict : (h : History) (parts : List SealedFields) (moment : ℕ) (cut : Cut) (s : SealedFields) (x : Identity) (ss : List Sighting)
-    → IsHistory (rebased h parts moment cut []) (s ∷ []) → has (kept_by (is_lasting_by moment (releases_of h parts)) (releases_of h parts)) x ≡ true → is_kept cut x ≡ true
-    → 1 ≤ length ss → ((t : Sighting) → Among ss t → Among (sightings x (seen (releases_of h parts))) t) → verdict (map (λ t. t.part) parts) x ss ≡ verdict (s.part ∷ []) x ss
-base_verdict h parts moment cut s x ss is kept other some asked =
-    let old : List Release = releases_of h parts in
+pub base_verdict : (h : History) (moment : ℕ) (cut : Cut) (s : SealedFields) (x : Identity) (ss : List Sighting)
+    → IsHistory (rebased h moment cut s []) → has (kept_by (is_lasting_by moment (releases_of h)) (releases_of h)) x ≡ true → is_kept cut x ≡ true
+    → 1 ≤ length ss → ((t : Sighting) → Among ss t → Among (sightings x (seen (releases_of h))) t) → verdict (map (λ t. t.part) (parts_of h)) x ss ≡ verdict (s.part ∷ []) x ss
+base_verdict h moment cut s x ss is kept other some asked =
+    let old : List Release = releases_of h in
     let rs : List Release = releases_cut cut old in
     let keeps : Identity → Bool = is_lasting_by moment rs in
     let stays : has (kept_by keeps rs) x ≡ true = kept_cut moment cut old x other ∙ kept in
     let same : sightings x (seen (base_at moment rs s.trailer ∷ [])) ≡ sightings x (seen old) = sightings_kept keeps rs s.trailer x stays ∙ sightings_cut cut old x other in
-    history_verdict h parts x ss is.0 some asked
+    history_verdict h x ss is.0 some asked
     ∙ ap (λ (b : Bool). cond b Revoked Good) (sym (listed_kept keeps rs s.trailer x stays ∙ listed_cut cut old x other))
-    ∙ sym (history_verdict (rebased h parts moment cut []) (s ∷ []) x ss is some (λ t a. subst (λ (ts : List Sighting). Among ts t) (sym same) (asked t a)))
+    ∙ sym (history_verdict (rebased h moment cut s []) x ss is some (λ t a. subst (λ (ts : List Sighting). Among ts t) (sym same) (asked t a)))

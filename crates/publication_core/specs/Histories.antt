@@ -1,6 +1,6 @@
 -- Histories of admitted jobs: how they begin, which job may follow, which part is published of it, and the bytes of what
 -- is published.
-use Rattle.std.specs.Prelude.{◌≡◌, false, ℕ, ◌+◌, ◌<◌, ◌≤◌, List, [], ◌∷◌, ◌++◌, map, length, Option, Some, None, All, IfSome, IsOk}
+use Rattle.std.specs.Prelude.{◌≡◌, false, ℕ, ◌<◌, ◌≤◌, List, [], ◌∷◌, ◌++◌, map, length, Option, Some, None, All, IfSome, IsOk}
 use Rattle.ident_core.specs.Coverage.{LiesWithin}
 use Rattle.part_text.specs.SealedFields.{SealedFields}
 use Rattle.part_text.specs.PartText.{spelling}
@@ -12,14 +12,13 @@ use Rattle.ledger_core.specs.LedgerText.{ledger_text, old_ledger_text}
 use Rattle.ident_core.specs.Among.{Among}
 use Rattle.place_core.specs.Cuts.{Cut}
 use Rattle.universe_core.specs.Jobs.{JobFacts, is_enrolled}
-use Rattle.universe_core.specs.Formats.{dated, JobIn, in_format, reads_dates, facts_in}
+use Rattle.universe_core.specs.Formats.{dated, JobIn, reads_dates, facts_in}
 use Rattle.universe_core.specs.History.{Release, past_of, released, accepted_with}
 use Rattle.universe_core.specs.Groups.{GroupFields, groups}
 use Rattle.universe_core.specs.Ledgers.{part_from, ledger_of}
 use Rattle.universe_core.specs.Step.{head_after}
 use Rattle.history_core.specs.Bases.{all_issuers, base_head, releases_cut, base_at}
 use Rattle.store_core.specs.StoreLayout.{store_text}
-use Rattle.publication_core.specs.Formats.{current}
 use Rattle.publication_core.specs.Building.{HaveBlocks, IsSealedPart}
 
 -- ---- one job
@@ -54,24 +53,27 @@ pub record IsAdmissible (rs : List Release) (j : JobIn) : Type 0 where
   -- each enrolled issuer has a block
   pub blocks : HaveBlocks j.format (groups_of rs (facts_in j))
 
--- what a job with this part leaves
-abbrev pub release_of : List Release → JobIn → SealedFields → Release
-release_of rs j s = released (past_of rs) (facts_in j) s.trailer
+-- A job, and the part that is published of it.
+pub record Published : Type 0 where
+  pub job : JobIn
+  pub sealed : SealedFields
+
+-- what it leaves
+abbrev pub release_of : List Release → Published → Release
+release_of rs p = released (past_of rs) (facts_in p.job) p.sealed.trailer
 
 -- ---- jobs behind releases
 
--- these releases, and then what the jobs with these parts leave
-abbrev pub releases_after : List Release → List JobIn → List SealedFields → List Release
-releases_after rs [] parts = rs
-releases_after rs (j ∷ jobs) [] = rs
-releases_after rs (j ∷ jobs) (s ∷ parts) = releases_after (rs ++ release_of rs j s ∷ []) jobs parts
+-- these releases, and then what the jobs leave
+abbrev pub releases_after : List Release → List Published → List Release
+releases_after rs [] = rs
+releases_after rs (p ∷ ps) = releases_after (rs ++ release_of rs p ∷ []) ps
 
--- each of the jobs may follow those before it, and these are their parts
-abbrev pub AreAdmissible : List Release → List JobIn → List SealedFields → Type 0
-AreAdmissible rs [] [] = Unit {0}
-AreAdmissible rs [] (s ∷ parts) = ⊥
-AreAdmissible rs (j ∷ jobs) [] = ⊥
-AreAdmissible rs (j ∷ jobs) (s ∷ parts) = IsAdmissible rs j × IsPartOf rs j s × AreAdmissible (rs ++ release_of rs j s ∷ []) jobs parts
+-- each of the jobs may follow those before it, and has its part
+abbrev pub AreAdmissible : List Release → List Published → Type 0
+AreAdmissible rs [] = Unit {0}
+AreAdmissible rs (p ∷ ps) =
+    IsAdmissible rs p.job × IsPartOf rs p.job p.sealed × AreAdmissible (rs ++ release_of rs p ∷ []) ps
 
 -- ---- a base: one snapshot, which stands for releases without what has expired at a moment
 
@@ -92,53 +94,67 @@ pub record IsRebasable (moment : ℕ) (rs : List Release) : Type 0 where
 
 -- ---- histories
 
--- A history: jobs from the first on; or a base and the jobs behind it. The base stands, at a moment, for what a cut
--- keeps of a history with the parts that it published, which may itself begin with a base.
+-- A history: jobs from the first on; or a base and the jobs behind it. The base, which has this part, stands at a
+-- moment for what a cut keeps of a history, which may itself begin with a base.
 pub data History : Type 0 where
-  of_jobs : List JobIn → History
-  rebased : History → List SealedFields → ℕ → Cut → List JobIn → History
+  of_jobs : List Published → History
+  rebased : History → ℕ → Cut → SealedFields → List Published → History
 
--- how many members it has: a base, if it begins with one, and the jobs
+-- the parts that it published, in order: one of its base, if it begins with one, and one of each job
+abbrev pub parts_of : History → List SealedFields
+parts_of (of_jobs ps) = map (λ p. p.sealed) ps
+parts_of (rebased h moment cut s ps) = s ∷ map (λ p. p.sealed) ps
+
+-- how many members it has
 abbrev pub members : History → ℕ
-members (of_jobs jobs) = length jobs
-members (rebased h old moment cut jobs) = 1 + length jobs
-
--- with a job more
-abbrev pub with_job : History → JobIn → History
-with_job (of_jobs jobs) j = of_jobs (jobs ++ j ∷ [])
-with_job (rebased h old moment cut jobs) j = rebased h old moment cut (jobs ++ j ∷ [])
+members h = length (parts_of h)
 
 -- with more jobs, in order
-abbrev pub with_jobs : History → List JobIn → History
-with_jobs h [] = h
-with_jobs h (j ∷ jobs) = with_jobs (with_job h j) jobs
+abbrev pub with_jobs : History → List Published → History
+with_jobs (of_jobs ps) more = of_jobs (ps ++ more)
+with_jobs (rebased h moment cut s ps) more = rebased h moment cut s (ps ++ more)
 
--- the history of these jobs, each taken in the current format
-abbrev pub chain : List JobFields → History
-chain jobs = with_jobs (of_jobs []) (map (in_format current) jobs)
+-- with a job more, which has this part
+abbrev pub with_job : History → JobIn → SealedFields → History
+with_job h j s = with_jobs h (record { job = j; sealed = s } ∷ [])
 
--- what the members of a history with these parts leave
-abbrev pub releases_of : History → List SealedFields → List Release
-releases_of (of_jobs jobs) parts = releases_after [] jobs parts
-releases_of (rebased h old moment cut jobs) [] = []
-releases_of (rebased h old moment cut jobs) (s ∷ parts) =
-    releases_after (base_at moment (releases_cut cut (releases_of h old)) s.trailer ∷ []) jobs parts
+-- what its members leave
+abbrev pub releases_of : History → List Release
+releases_of (of_jobs ps) = releases_after [] ps
+releases_of (rebased h moment cut s ps) =
+    releases_after (base_at moment (releases_cut cut (releases_of h)) s.trailer ∷ []) ps
 
--- Each job of the history may follow those before it, the base may stand for its history, and these are the parts that
--- they publish.
-abbrev pub IsHistory : History → List SealedFields → Type 0
-IsHistory (of_jobs jobs) parts = AreAdmissible [] jobs parts
-IsHistory (rebased h old moment cut jobs) [] = ⊥
-IsHistory (rebased h old moment cut jobs) (s ∷ parts) =
-    IsHistory h old × IsRebasable moment (releases_cut cut (releases_of h old))
-    × IsBasePart moment (releases_cut cut (releases_of h old)) s
-    × AreAdmissible (base_at moment (releases_cut cut (releases_of h old)) s.trailer ∷ []) jobs parts
+-- Each job of the history may follow those before it, the base may stand for its history, and each has its part.
+abbrev pub IsHistory : History → Type 0
+IsHistory (of_jobs ps) = AreAdmissible [] ps
+IsHistory (rebased h moment cut s ps) =
+    IsHistory h × IsRebasable moment (releases_cut cut (releases_of h))
+    × IsBasePart moment (releases_cut cut (releases_of h)) s
+    × AreAdmissible (base_at moment (releases_cut cut (releases_of h)) s.trailer ∷ []) ps
 
 -- The history begins with a base that leaves out the issuer, and none of its jobs enrolls it.
 abbrev pub LeavesOut : History → List ℕ → Type 0
-LeavesOut (of_jobs jobs) issuer = ⊥
-LeavesOut (rebased h old moment cut jobs) issuer =
-    (cut.takes issuer ≡ false) × ((j : JobIn) → Among jobs j → is_enrolled (facts_in j) issuer ≡ false)
+LeavesOut (of_jobs ps) issuer = ⊥
+LeavesOut (rebased h moment cut s ps) issuer =
+    (cut.takes issuer ≡ false) × ((p : Published) → Among ps p → is_enrolled (facts_in p.job) issuer ≡ false)
+
+-- no job of the history is in a format that reads dates, and it begins with no base
+abbrev pub IsUndated : History → Type 0
+IsUndated (of_jobs ps) = All (λ p. reads_dates p.job.format ≡ false) ps
+IsUndated (rebased h moment cut s ps) = ⊥
+
+-- ---- courses
+
+-- A history as its jobs alone tell it, with no parts: jobs from the first on; or a base, which stands at a moment for
+-- what a cut keeps of all before it, and the jobs behind it.
+pub data Course : Type 0 where
+  from_jobs : List JobIn → Course
+  from_base : Course → ℕ → Cut → List JobIn → Course
+
+-- the course of a history
+abbrev pub course_of : History → Course
+course_of (of_jobs ps) = from_jobs (map (λ p. p.job) ps)
+course_of (rebased h moment cut s ps) = from_base (course_of h) moment cut (map (λ p. p.job) ps)
 
 -- ---- bytes
 
@@ -148,14 +164,9 @@ part_bytes s = spelling s
 abbrev pub store_bytes : List SealedFields → List ℕ
 store_bytes parts = store_text parts
 
-abbrev pub ledger_bytes : History → List SealedFields → List ℕ
-ledger_bytes h parts = ledger_text (ledger_of (releases_of h parts))
-
--- no job of the history is in a format that reads dates, and it begins with no base
-abbrev pub IsUndated : History → Type 0
-IsUndated (of_jobs jobs) = All (λ j. reads_dates j.format ≡ false) jobs
-IsUndated (rebased h old moment cut jobs) = ⊥
+abbrev pub ledger_bytes : History → List ℕ
+ledger_bytes h = ledger_text (ledger_of (releases_of h))
 
 -- the bytes of its ledger in version 1
-abbrev pub old_ledger_bytes : History → List SealedFields → List ℕ
-old_ledger_bytes h parts = old_ledger_text (ledger_of (releases_of h parts))
+abbrev pub old_ledger_bytes : History → List ℕ
+old_ledger_bytes h = old_ledger_text (ledger_of (releases_of h))

@@ -1,6 +1,6 @@
 //! What follows for the base of every history, and what a ledger is that is cut, with no call.
 
-ghost use Rattle.std.specs.Prelude.{◌≡◌, ◌≤◌, ◌+◌, ◌∷◌, ◌++◌, [], ℕ, Bool, List, Ok, Result, Some, filter, length};
+ghost use Rattle.std.specs.Prelude.{◌≡◌, ◌≤◌, ◌+◌, ◌∷◌, [], ℕ, Bool, List, Ok, Result, Some, filter, length};
 ghost use Rattle.std.specs.Prelude.{map, true, if◌then◌else◌};
 ghost use Rattle.std.specs.List.{list_any};
 ghost use Rattle.ident_core.specs.declared.identity.Identity.{Identity};
@@ -24,7 +24,8 @@ ghost use Rattle.card_core.specs.declared.verdict.Verdict.TheVariants as Verdict
 ghost use Rattle.card_core.specs.Consulting.{covers_some};
 ghost use Rattle.card_core.specs.Verdict.{verdict};
 ghost use Rattle.publication_core.specs.declared.base_fault.BaseFault.{BaseFault};
-ghost use Rattle.publication_core.specs.Histories.{History, rebased, members, with_job, IsHistory, releases_of, IsRebasable, LeavesOut};
+ghost use Rattle.publication_core.specs.Histories.{History, rebased, members, with_job, parts_of};
+ghost use Rattle.publication_core.specs.Histories.{IsHistory, releases_of, IsRebasable, LeavesOut};
 ghost use Rattle.publication_core.specs.Building.{HaveBlocks};
 ghost use Rattle.publication_core.specs.Rebasing.{BasePublicationFields, PublishesBase, base_counts};
 
@@ -32,25 +33,25 @@ ghost use Rattle.publication_core.specs.Rebasing.{BasePublicationFields, Publish
 /// (`rebasable`), the history that begins with this base has its part (`history`) and its ledger (`ledger`), and its
 /// counts (`numbers`). Each history for which a base may stand is rebased (`complete`).
 pub fn bases_are_published()
-    ensures rebasable { (h : History) (parts : List SealedFields) (moment : ℕ) (cut : Cut)
-        (p : BasePublicationFields) → IsHistory h parts → 1 ≤ members h
-        → PublishesBase (ledger_of (releases_of h parts)) moment cut (Ok p)
-        → IsRebasable moment (releases_cut cut (releases_of h parts)) }
-    ensures history { (h : History) (parts : List SealedFields) (moment : ℕ) (cut : Cut)
-        (p : BasePublicationFields) → IsHistory h parts → 1 ≤ members h
-        → PublishesBase (ledger_of (releases_of h parts)) moment cut (Ok p)
-        → IsHistory (rebased h parts moment cut []) (p.sealed ∷ []) }
-    ensures ledger { (h : History) (parts : List SealedFields) (moment : ℕ) (cut : Cut)
-        (p : BasePublicationFields) → IsHistory h parts
-        → PublishesBase (ledger_of (releases_of h parts)) moment cut (Ok p)
-        → p.ledger ≡ ledger_of (releases_of (rebased h parts moment cut []) (p.sealed ∷ [])) }
-    ensures numbers { (h : History) (parts : List SealedFields) (moment : ℕ) (cut : Cut)
-        (p : BasePublicationFields) → IsHistory h parts
-        → PublishesBase (ledger_of (releases_of h parts)) moment cut (Ok p)
-        → p.counts ≡ base_counts moment cut (releases_of h parts) }
-    ensures complete { (h : History) (parts : List SealedFields) (moment : ℕ) (cut : Cut)
-        → IsHistory h parts → IsRebasable moment (releases_cut cut (releases_of h parts))
-        → (p : BasePublicationFields) × PublishesBase (ledger_of (releases_of h parts)) moment cut (Ok p) }
+    ensures rebasable { (h : History) (moment : ℕ) (cut : Cut)
+        (p : BasePublicationFields) → IsHistory h → 1 ≤ members h
+        → PublishesBase (ledger_of (releases_of h)) moment cut (Ok p)
+        → IsRebasable moment (releases_cut cut (releases_of h)) }
+    ensures history { (h : History) (moment : ℕ) (cut : Cut)
+        (p : BasePublicationFields) → IsHistory h → 1 ≤ members h
+        → PublishesBase (ledger_of (releases_of h)) moment cut (Ok p)
+        → IsHistory (rebased h moment cut p.sealed []) }
+    ensures ledger { (h : History) (moment : ℕ) (cut : Cut)
+        (p : BasePublicationFields) → IsHistory h
+        → PublishesBase (ledger_of (releases_of h)) moment cut (Ok p)
+        → p.ledger ≡ ledger_of (releases_of (rebased h moment cut p.sealed [])) }
+    ensures numbers { (h : History) (moment : ℕ) (cut : Cut)
+        (p : BasePublicationFields) → IsHistory h
+        → PublishesBase (ledger_of (releases_of h)) moment cut (Ok p)
+        → p.counts ≡ base_counts moment cut (releases_of h) }
+    ensures complete { (h : History) (moment : ℕ) (cut : Cut)
+        → IsHistory h → IsRebasable moment (releases_cut cut (releases_of h))
+        → (p : BasePublicationFields) × PublishesBase (ledger_of (releases_of h)) moment cut (Ok p) }
 {}
 
 /// One thing comes of a rebase behind a ledger (`outcome`), that of a history or not: something is published or there
@@ -70,13 +71,13 @@ pub fn one_thing_comes_of_a_rebase()
 /// A rebase keeps the verdicts: of an identity that has not expired and is kept by the cut, asked with one or
 /// more accepted sightings of the history, the part of the base says what the parts of the history say.
 pub fn rebases_keep_verdicts()
-    ensures { (h : History) (parts : List SealedFields) (moment : ℕ) (cut : Cut) (s : SealedFields)
+    ensures { (h : History) (moment : ℕ) (cut : Cut) (s : SealedFields)
         (x : Identity) (ss : List Sighting)
-        → IsHistory (rebased h parts moment cut []) (s ∷ [])
-        → has (kept_by (is_lasting_by moment (releases_of h parts)) (releases_of h parts)) x ≡ true
+        → IsHistory (rebased h moment cut s [])
+        → has (kept_by (is_lasting_by moment (releases_of h)) (releases_of h)) x ≡ true
         → is_kept cut x ≡ true
-        → 1 ≤ length ss → ((t : Sighting) → Among ss t → Among (sightings x (seen (releases_of h parts))) t)
-        → verdict (map (λ t. t.part) parts) x ss ≡ verdict (s.part ∷ []) x ss }
+        → 1 ≤ length ss → ((t : Sighting) → Among ss t → Among (sightings x (seen (releases_of h))) t)
+        → verdict (map (λ t. t.part) (parts_of h)) x ss ≡ verdict (s.part ∷ []) x ss }
 {}
 
 /// An issuer that a base leaves out can come back. While no job enrolls it, the parts say of its certificates that they
@@ -84,12 +85,12 @@ pub fn rebases_keep_verdicts()
 /// of its entries that the job covers, those among them that were accepted before the base too (`come_back`): from then on
 /// what holds of accepted sightings holds of them.
 pub fn issuers_that_are_left_out_come_back()
-    ensures unenrolled { (h : History) (parts : List SealedFields) (x : Identity) (ss : List Sighting) → IsHistory h parts
-        → LeavesOut h x.issuer → verdict (map (λ t. t.part) parts) x ss
-        ≡ (if list_any (covers_some ss) (map (λ t. t.part) parts) then Verdict.NotEnrolled else Verdict.NotCovered) }
-    ensures come_back { (h : History) (parts : List SealedFields) (j : JobIn) (s : SealedFields) (e : Entry) → IsHistory h parts
+    ensures unenrolled { (h : History) (x : Identity) (ss : List Sighting) → IsHistory h
+        → LeavesOut h x.issuer → verdict (map (λ t. t.part) (parts_of h)) x ss
+        ≡ (if list_any (covers_some ss) (map (λ t. t.part) (parts_of h)) then Verdict.NotEnrolled else Verdict.NotCovered) }
+    ensures come_back { (h : History) (j : JobIn) (s : SealedFields) (e : Entry) → IsHistory h
         → LeavesOut h e.id.issuer → Among (facts_in j).entries (Some e) → covers (facts_in j).ranges e.sighting ≡ true
-        → is_enrolled (facts_in j) e.id.issuer ≡ true → Among (seen (releases_of (with_job h j) (parts ++ s ∷ []))) e }
+        → is_enrolled (facts_in j) e.id.issuer ≡ true → Among (seen (releases_of (with_job h j s))) e }
 {}
 
 /// A ledger is rebased to what a cut keeps where the ledger, cut, is rebased. That has the same head, a block for each

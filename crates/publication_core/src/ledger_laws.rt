@@ -1,7 +1,6 @@
 //! What follows for the ledger of every history, with no call.
 
-ghost use Rattle.std.specs.Prelude.{◌≡◌, ◌≤◌, List, Ok, length};
-ghost use Rattle.part_text.specs.SealedFields.{SealedFields};
+ghost use Rattle.std.specs.Prelude.{◌≡◌, ◌≤◌, Ok, length};
 ghost use Rattle.ledger_core.specs.Fitting.{Fits};
 ghost use Rattle.ledger_core.specs.LedgerLayout.{ledger};
 ghost use Rattle.ledger_core.specs.LedgerReading.{ledger_of_bytes};
@@ -13,15 +12,15 @@ ghost use Rattle.publication_core.specs.Histories.{History, members, IsHistory, 
 /// and its bytes are read as it, to the last one. So are its bytes in version 1 where no job's format reads dates, since
 /// the ledger has none then (`undated`, `old_read`, `old_value`).
 pub fn ledgers_are_read_back()
-    ensures fits { (h : History) (parts : List SealedFields) → IsHistory h parts → 1 ≤ members h → Fits (ledger_of (releases_of h parts)) }
-    ensures read { (h : History) (parts : List SealedFields) → IsHistory h parts → 1 ≤ members h
-        → ledger (ledger_bytes h parts) 0 ≡ Ok (ledger_of (releases_of h parts), length (ledger_bytes h parts)) }
-    ensures value { (h : History) (parts : List SealedFields) → IsHistory h parts → 1 ≤ members h
-        → ledger_of_bytes (ledger_bytes h parts) ≡ Ok (ledger_of (releases_of h parts)) }
-    ensures undated { (h : History) (parts : List SealedFields) → IsHistory h parts → 1 ≤ members h → IsUndated h
-        → HasNoDates (ledger_of (releases_of h parts)) }
-    ensures old_read { (h : History) (parts : List SealedFields) → IsHistory h parts → 1 ≤ members h → IsUndated h
-        → ledger (old_ledger_bytes h parts) 0 ≡ Ok (ledger_of (releases_of h parts), length (old_ledger_bytes h parts)) }
-    ensures old_value { (h : History) (parts : List SealedFields) → IsHistory h parts → 1 ≤ members h → IsUndated h
-        → ledger_of_bytes (old_ledger_bytes h parts) ≡ Ok (ledger_of (releases_of h parts)) }
+    ensures fits { (h : History) → IsHistory h → 1 ≤ members h → Fits (ledger_of (releases_of h)) }
+    ensures read { (h : History) → IsHistory h → 1 ≤ members h
+        → ledger (ledger_bytes h) 0 ≡ Ok (ledger_of (releases_of h), length (ledger_bytes h)) }
+    ensures value { (h : History) → IsHistory h → 1 ≤ members h
+        → ledger_of_bytes (ledger_bytes h) ≡ Ok (ledger_of (releases_of h)) }
+    ensures undated { (h : History) → IsHistory h → 1 ≤ members h → IsUndated h
+        → HasNoDates (ledger_of (releases_of h)) }
+    ensures old_read { (h : History) → IsHistory h → 1 ≤ members h → IsUndated h
+        → ledger (old_ledger_bytes h) 0 ≡ Ok (ledger_of (releases_of h), length (old_ledger_bytes h)) }
+    ensures old_value { (h : History) → IsHistory h → 1 ≤ members h → IsUndated h
+        → ledger_of_bytes (old_ledger_bytes h) ≡ Ok (ledger_of (releases_of h)) }
 {}

@@ -85,7 +85,7 @@ impl Rehearsal {
         requires within { IsWithinLimits Limits.PUBLISHED (fields_of_job job) }
         requires some_workers { 1 ≤ workers }
         requires few_workers { workers ≤ MAX_WORKERS }
-        ensures added { IfOk result (λ x. (h : History) → IsOf h of_none → Adds h of_none (fields_of_job job) x.0 x.1) }
+        ensures added { IfOk result (λ x. (h : History) → IsOf h of_none → Adds h (fields_of_job job) x.0 x.1) }
         ensures refused { IfErr result (λ e. e ≢ PublishFault.NoMemory → Publishes no_ledger (fields_of_job job) (Err e)) }
     {
         histories_are_published();
@@ -123,7 +123,7 @@ impl Rehearsal {
         requires few_workers { workers ≤ MAX_WORKERS }
         ensures added { IfOk result (λ x. (h : History)
             → IsOf h (record { parts = store; ledger = ledger })
-            → Adds h (record { parts = store; ledger = ledger }) (fields_of_job job) x.0 x.1) }
+            → Adds h (fields_of_job job) x.0 x.1) }
         ensures refused { IfErr result (λ e. e ≢ PublishFault.NoMemory → Publishes ledger (fields_of_job job) (Err e)) }
     {
         histories_are_published();
@@ -158,9 +158,9 @@ impl Rehearsal {
         requires within { IsWithinLimits Limits.PUBLISHED (fields_of_job job) }
         requires some_workers { 1 ≤ workers }
         requires few_workers { workers ≤ MAX_WORKERS }
-        ensures added { IfOk result (λ x. (h : History) → IsOf h self → Adds h self (fields_of_job job) x.0 x.1) }
+        ensures added { IfOk result (λ x. (h : History) → IsOf h self → Adds h (fields_of_job job) x.0 x.1) }
         ensures refused { IfErr result (λ e. (h : History) → IsOf h self → e ≢ PublishFault.NoMemory
-            → Publishes (ledger_of (releases_of h self.parts)) (fields_of_job job) (Err e)) }
+            → Publishes (ledger_of (releases_of h)) (fields_of_job job) (Err e)) }
     {
         match self.published {
             None => Rehearsal::begun(rt, alloc, gate, job, workers),

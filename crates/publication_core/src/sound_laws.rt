@@ -10,12 +10,13 @@ ghost use Rattle.ident_core.specs.Among.{Among};
 ghost use Rattle.ident_core.specs.Sets.{has, has_key};
 ghost use Rattle.place_core.specs.Cuts.{Cut};
 ghost use Rattle.universe_core.specs.Jobs.{Entry, is_enrolled, lists};
-ghost use Rattle.universe_core.specs.Formats.{JobIn, facts_in};
+ghost use Rattle.universe_core.specs.Formats.{facts_in};
 ghost use Rattle.universe_core.specs.History.{Release, accepted_by, seen, sightings, birth, is_listed};
 ghost use Rattle.universe_core.specs.Ledgers.{last};
 ghost use Rattle.history_core.specs.Facts.{IsSound};
 ghost use Rattle.history_core.specs.Bases.{kept_by, releases_cut, base_at, is_lasting_by};
-ghost use Rattle.publication_core.specs.Histories.{IsAdmissible, release_of, History, of_jobs, rebased, IsHistory, releases_of};
+ghost use Rattle.publication_core.specs.Histories.{Published, IsAdmissible, release_of, History, of_jobs, rebased};
+ghost use Rattle.publication_core.specs.Histories.{IsHistory, parts_of, releases_of};
 
 /// Every history is sound: it is so before the first job (`begun`), a base is where the releases are for which it stands
 /// (`based`), and each job that may follow keeps it, from any state in which it is so (`kept`). So in each history:
@@ -28,33 +29,32 @@ ghost use Rattle.publication_core.specs.Histories.{IsAdmissible, release_of, His
 /// - listed is what some job from the identity's birth on lists, and enrolls the issuer of (`listed`); behind a base,
 ///   that, or what is kept and was listed in the history that it stands for (`listed_behind`).
 pub fn histories_are_sound()
-    ensures begun { IsSound (releases_of (of_jobs []) []) }
+    ensures begun { IsSound (releases_of (of_jobs [])) }
     ensures based { (moment : ℕ) (rs : List Release) (s : SealedFields) → IsSound rs → IsSound (base_at moment rs s.trailer ∷ []) }
-    ensures kept { (rs : List Release) (j : JobIn) (s : SealedFields) → IsSound rs → IsAdmissible rs j
-        → IsSound (rs ++ release_of rs j s ∷ []) }
-    ensures sound { (h : History) (parts : List SealedFields) → IsHistory h parts → IsSound (releases_of h parts) }
-    ensures last_covers { (h : History) (parts : List SealedFields) (x : Identity) (k : ℕ) → IsHistory h parts
-        → last x (releases_of h parts) ≡ Some k → (s : SealedFields) × (slice_get parts k ≡ Some s)
-        × ((t : Sighting) → Among (sightings x (seen (releases_of h parts))) t → covers s.part.head.ranges t ≡ true) }
-    ensures last_listed { (h : History) (parts : List SealedFields) (x : Identity) → IsHistory h parts
-        → is_some (last x (releases_of h parts)) ≡ is_listed (releases_of h parts) x }
-    ensures covered { (h : History) (parts : List SealedFields) (e : Entry) → IsHistory h parts → Among (seen (releases_of h parts)) e
-        → (r : Release) × Among (releases_of h parts) r × (covers r.ranges e.sighting ≡ true) × (has_key r.issuers e.id.issuer ≡ true) }
-    ensures timely { (h : History) (parts : List SealedFields) (e : Entry) (r : Release) → IsHistory h parts
-        → Among (seen (releases_of h parts)) e → Among (releases_of h parts) r → covers r.ranges e.sighting ≡ true
+    ensures kept { (rs : List Release) (p : Published) → IsSound rs → IsAdmissible rs p.job
+        → IsSound (rs ++ release_of rs p ∷ []) }
+    ensures sound { (h : History) → IsHistory h → IsSound (releases_of h) }
+    ensures last_covers { (h : History) (x : Identity) (k : ℕ) → IsHistory h
+        → last x (releases_of h) ≡ Some k → (s : SealedFields) × (slice_get (parts_of h) k ≡ Some s)
+        × ((t : Sighting) → Among (sightings x (seen (releases_of h))) t → covers s.part.head.ranges t ≡ true) }
+    ensures last_listed { (h : History) (x : Identity) → IsHistory h
+        → is_some (last x (releases_of h)) ≡ is_listed (releases_of h) x }
+    ensures covered { (h : History) (e : Entry) → IsHistory h → Among (seen (releases_of h)) e
+        → (r : Release) × Among (releases_of h) r × (covers r.ranges e.sighting ≡ true) × (has_key r.issuers e.id.issuer ≡ true) }
+    ensures timely { (h : History) (e : Entry) (r : Release) → IsHistory h
+        → Among (seen (releases_of h)) e → Among (releases_of h) r → covers r.ranges e.sighting ≡ true
         → has_key r.issuers e.id.issuer ≡ true → has r.accepted e.id ≡ true }
-    ensures entered { (h : History) (parts : List SealedFields) (x : Identity) → IsHistory h parts
-        → has (accepted_by [] (releases_of h parts)) x ≡ true → (e : Entry) × Among (seen (releases_of h parts)) e × (e.id ≡ x) }
-    ensures listed { (jobs : List JobIn) (parts : List SealedFields) (x : Identity) → IsHistory (of_jobs jobs) parts
-        → is_listed (releases_of (of_jobs jobs) parts) x
-        ≡ list_any (λ j. lists (facts_in j) x && is_enrolled (facts_in j) x.issuer)
-        (drop (birth x (releases_of (of_jobs jobs) parts)) jobs) }
-    ensures listed_behind { (h : History) (old : List SealedFields) (moment : ℕ) (cut : Cut) (jobs : List JobIn)
-        (parts : List SealedFields) (x : Identity) → IsHistory (rebased h old moment cut jobs) parts
-        → is_listed (releases_of (rebased h old moment cut jobs) parts) x
-        ≡ ((has (kept_by (is_lasting_by moment (releases_cut cut (releases_of h old)))
-        (releases_cut cut (releases_of h old))) x
-        && is_listed (releases_cut cut (releases_of h old)) x)
-        || list_any (λ j. lists (facts_in j) x && is_enrolled (facts_in j) x.issuer)
-        (drop (birth x (drop 1 (releases_of (rebased h old moment cut jobs) parts))) jobs)) }
+    ensures entered { (h : History) (x : Identity) → IsHistory h
+        → has (accepted_by [] (releases_of h)) x ≡ true → (e : Entry) × Among (seen (releases_of h)) e × (e.id ≡ x) }
+    ensures listed { (ps : List Published) (x : Identity) → IsHistory (of_jobs ps)
+        → is_listed (releases_of (of_jobs ps)) x
+        ≡ list_any (λ p. lists (facts_in p.job) x && is_enrolled (facts_in p.job) x.issuer)
+        (drop (birth x (releases_of (of_jobs ps))) ps) }
+    ensures listed_behind { (h : History) (moment : ℕ) (cut : Cut) (s : SealedFields) (ps : List Published) (x : Identity)
+        → IsHistory (rebased h moment cut s ps) → is_listed (releases_of (rebased h moment cut s ps)) x
+        ≡ ((has (kept_by (is_lasting_by moment (releases_cut cut (releases_of h)))
+        (releases_cut cut (releases_of h))) x
+        && is_listed (releases_cut cut (releases_of h)) x)
+        || list_any (λ p. lists (facts_in p.job) x && is_enrolled (facts_in p.job) x.issuer)
+        (drop (birth x (drop 1 (releases_of (rebased h moment cut s ps)))) ps)) }
 {}

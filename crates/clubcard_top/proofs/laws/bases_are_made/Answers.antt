@@ -28,12 +28,12 @@ returns c =
       told = c.histories_are_made.ensures.told;
     } in
     record {
-      rebased = λ command files r h parts d is p m. rebased_law layers command files r h parts d is p m;
-      rebasable = λ command files r h parts o is p may m. rebasable_law layers command files r h parts o is p may m;
-      kept = λ h parts moment cut s q kept other. kept_law keeping h parts moment cut s q kept other;
-      asked = λ command files q h parts moment cut s o is a m. base_asked keeping command files q h parts moment cut s o is a m;
-      left_out = λ command files q h parts o is a m. left_out_law leaving command files q h parts o is a m;
-      comes_back = λ h parts job s e is left b.
-          c.issuers_that_are_left_out_come_back.ensures.come_back h parts (in_format current job) s e is left b.entry b.covered b.enrolled;
+      rebased = λ command files r h d is p m. rebased_law layers command files r h d is p m;
+      rebasable = λ command files r h o is p may m. rebasable_law layers command files r h o is p may m;
+      kept = λ h moment cut s q kept other. kept_law keeping h moment cut s q kept other;
+      asked = λ command files q h moment cut s o is a m. base_asked keeping command files q h moment cut s o is a m;
+      left_out = λ command files q h o is a m. left_out_law leaving command files q h o is a m;
+      comes_back = λ h job s e is left b.
+          c.issuers_that_are_left_out_come_back.ensures.come_back h (in_format current job) s e is left b.entry b.covered b.enrolled;
       publishable = c.one_thing_comes_of_a_rebase.ensures.complete;
     }

@@ -8,7 +8,7 @@ returns c =
       publishing = record {
         one = c.publications_are_unique.ensures.outcome;
         front = c.histories_are_published.ensures.front;
-        parts = c.publications_are_unique.ensures.parts;
+        part = c.publications_are_unique.ensures.part;
         complete = c.histories_are_published.ensures.complete;
       };
       none = c.histories_are_published.ensures.none;
@@ -19,7 +19,6 @@ returns c =
       place = c.histories_are_published.ensures.place;
       ledgers = record { value = c.ledgers_are_read_back.ensures.value; old_value = c.ledgers_are_read_back.ensures.old_value };
       chain = c.parts_are_chains.ensures.chain;
-      many = c.parts_are_chains.ensures.many;
       few = c.parts_are_chains.ensures.few;
       texts = c.parts_are_chains.ensures.texts;
       truths = c.verdicts_are_the_truth.ensures;
@@ -28,13 +27,13 @@ returns c =
       part_read = c.a_text_is_read_back.ensures;
     } in
     record {
-      published = λ command files h parts job d is p m. published layers command files h parts job d is p m;
-      admitted = λ command files h parts job o is p a m. admitted layers command files h parts job o is p a m;
-      stored = λ command files h parts s o is p m. stored_law layers command files h parts s o is p m;
-      told = λ command files q h parts o is p m. told_law layers command files q h parts o is p m;
-      asked = λ command files q h parts o is p m. asked_law layers command files q h parts o is p m;
-      certified = λ command files q x ss h parts o is a m. cert_law layers command files q x ss h parts o is a m;
+      published = λ command files h job d is p m. published layers command files h job d is p m;
+      admitted = λ command files h job o is p a m. admitted layers command files h job o is p a m;
+      stored = λ command files h ss s o is are p m. stored_law layers command files h ss s o is are p m;
+      told = λ command files q h o is p m. told_law layers command files q h o is p m;
+      asked = λ command files q h o is p m. asked_law layers command files q h o is p m;
+      certified = λ command files q x ss h o is a m. cert_law layers command files q x ss h o is a m;
       rehearsed = λ command files r d is m. rehearsed_law layers files command r d is m;
-      followed = λ command files queries jobs parts o is p m. done_law layers files command queries jobs parts o is p m;
+      followed = λ command files queries jobs o is p m. done_law layers files command queries jobs o is p m;
       publishable = c.what_can_be_is_published.ensures;
     }

@@ -6,7 +6,7 @@ returns c =
     let publishing : Publishing = record {
       one = c.publications_are_unique.ensures.outcome;
       front = c.histories_are_published.ensures.front;
-      parts = c.publications_are_unique.ensures.parts;
+      part = c.publications_are_unique.ensures.part;
       complete = c.histories_are_published.ensures.complete;
     } in
     let others : Others = record { audits = c.audits_are_unique.ensures; bases = c.one_thing_comes_of_a_rebase.ensures.outcome } in

@@ -1,6 +1,5 @@
-use Rattle.std.proofs.Common.{arith, refl, ap, ◌∙◌}
+use Rattle.std.proofs.Common.{arith, refl, ◌∙◌}
 use Rattle.outside_core.specs.Effects.{OnlyReads}
-use Rattle.publication_core.specs.Rehearsing.{RehearsalFields}
 use Rattle.outside_core.specs.Reads.{WhichFailed}
 use Rattle.outside_core.proofs.Effects.{WhichFailed-then}
 use Rattle.input_core.proofs.FilesRead.{none_failed}
@@ -9,7 +8,7 @@ use Rattle.command_core.proofs.rehearsing.with_files.Goals as goal
 
 pub loop-file-init : goal.loop-file-init
 loop-file-init g c = record {
-  gone = none_gone _ c.args.names.now c.new-rehearsal.result c.args.text.items (ap (λ (r : RehearsalFields). r.parts) c.new-rehearsal.ensures.value) c.new-rehearsal.ensures.is_of c.requires.empty;
+  gone = none_gone _ c.args.names.now c.new-rehearsal.result c.args.text.items c.new-rehearsal.ensures.is_of c.requires.empty;
   none_failed = refl;
   later = omega arith;
   same_files = refl;

@@ -9,12 +9,12 @@ use Rattle.cut_core.proofs.places.places_say_the_truth.Goals as goal
 pub returns : goal.returns
 returns c = record {
   published =
-      λ by count c x h parts ss e is some asked. cut_verdict (at_place by count (place_in by count x)) c h parts x ss e is
+      λ by count c x h ss e is some asked. cut_verdict (at_place by count (place_in by count x)) c h x ss e is
       (at_itself by count x) some asked;
-  whole = λ by count whole kept old parts x ss before is e some asked.
-      whole_verdict (at_place by count (place_in by count x)) whole kept old parts x ss before is e (at_itself by count x) some asked;
-  split = λ by count whole old moment jobs x parts ss is some asked.
-      split_verdict (at_place by count (place_in by count x)) whole old moment jobs parts x ss is (at_itself by count x) some asked;
+  whole = λ by count whole kept x ss is e some asked.
+      whole_verdict (at_place by count (place_in by count x)) whole kept x ss is e (at_itself by count x) some asked;
+  split = λ by count c moment jobs x h ss is e some asked.
+      split_verdict (at_place by count (place_in by count x)) c moment jobs h x ss is e (at_itself by count x) some asked;
   audited =
       λ by count jobs x parts ss agree some asked. cut_audit (at_place by count (place_in by count x)) jobs parts x ss agree
       (at_itself by count x) some asked;

@@ -10,5 +10,5 @@ returns c = record {
   whole = whole_verdict;
   audited = cut_audit;
   split = split_verdict;
-  words = λ cut jobs parts x is k. listed_by_jobs cut x k jobs parts is;
+  words = λ cut jobs ps x e k. listed_by_jobs cut x k jobs ps e;
 }

@@ -9,7 +9,6 @@ returns-clause-promises g c = λ device told.
     c.args.out.now c.run_words.new.out c.run_words.result.0) device told
     (record {
       chain = c.parts_are_chains.ensures.chain;
-      many = c.parts_are_chains.ensures.many;
       few = c.parts_are_chains.ensures.few;
       texts = c.parts_are_chains.ensures.texts;
       truths = c.verdicts_are_the_truth.ensures;

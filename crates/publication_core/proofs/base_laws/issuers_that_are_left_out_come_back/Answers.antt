@@ -3,6 +3,6 @@ use Rattle.publication_core.proofs.base_laws.issuers_that_are_left_out_come_back
 
 pub returns : goal.returns
 returns c = record {
-  unenrolled = λ h parts x ss is left. left_out_verdict h parts x ss is left;
-  come_back = λ h parts j s e is left a v k. comes_back h parts j s e is left a v k;
+  unenrolled = λ h x ss is left. left_out_verdict h x ss is left;
+  come_back = λ h j s e is left a v k. comes_back h j s e left a v k;
 }

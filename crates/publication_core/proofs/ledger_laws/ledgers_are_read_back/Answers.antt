@@ -3,10 +3,10 @@ use Rattle.publication_core.proofs.ledger_laws.ledgers_are_read_back.Goals as go
 
 pub returns : goal.returns
 returns c = record {
-  fits = λ h parts is some. history_ledger_fits h parts is some;
-  read = λ h parts is some. history_ledger_read h parts is some;
-  value = λ h parts is some. history_ledger_value h parts is some;
-  undated = λ h parts is some none. history_undated h parts is some none;
-  old_read = λ h parts is some none. history_old_read h parts is some none;
-  old_value = λ h parts is some none. history_old_value h parts is some none;
+  fits = λ h is some. history_ledger_fits h is some;
+  read = λ h is some. history_ledger_read h is some;
+  value = λ h is some. history_ledger_value h is some;
+  undated = λ h is some none. history_undated h is some none;
+  old_read = λ h is some none. history_old_read h is some none;
+  old_value = λ h is some none. history_old_value h is some none;
 }

@@ -9,13 +9,13 @@ pub returns : goal.returns
 returns c = record {
   begun = nothing_sound;
   based = λ moment rs s sound. base_at_sound moment rs s sound;
-  kept = λ rs j s sound a. job_sound rs j s sound a;
-  sound = λ h parts is. history_sound h parts is;
-  last_covers = λ h parts x k is e. last_part h parts x k is e;
-  last_listed = λ h parts x is. last_for_listed (releases_of h parts) x (history_sound h parts is);
-  covered = λ h parts e is a. (history_sound h parts is).covered e a;
-  timely = λ h parts e r is a i c k. (history_sound h parts is).timely e a r i c k;
-  entered = λ h parts x is a. (history_sound h parts is).entered x a;
-  listed = λ jobs parts x is. listed_in_jobs jobs parts x is;
-  listed_behind = λ h old moment jobs parts x is. listed_behind_base h old moment jobs parts x is;
+  kept = λ rs p sound a. job_sound rs p sound a;
+  sound = λ h is. history_sound h is;
+  last_covers = λ h x k is e. last_part h x k is e;
+  last_listed = λ h x is. last_for_listed (releases_of h) x (history_sound h is);
+  covered = λ h e is a. (history_sound h is).covered e a;
+  timely = λ h e r is a i c k. (history_sound h is).timely e a r i c k;
+  entered = λ h x is a. (history_sound h is).entered x a;
+  listed = λ ps x is. listed_in_jobs ps x;
+  listed_behind = λ h moment cut s ps x is. listed_behind_base h moment cut s ps x is;
 }

@@ -20,7 +20,7 @@ invariant_of-result g c =
       grown = c.chains_grow.ensures.only;
     } in
     rw (c.in-Ok.ensures.store, c.into_sealed_and_ledger-sealed.ensures) (
-      of_jobs (in_format current (fields_of_job c.args.job) ∷ []),
+      of_jobs (record { job = in_format current (fields_of_job c.args.job); sealed = c.in_ok-publication.publication.sealed } ∷ []),
       after_is layers (of_jobs []) of_none (fields_of_job c.args.job) c.in_ok-publication.publication (none_is layers) c.requires.fits c.requires.within (c.in_ok-publication.ensures (λ e. cc)),
     )
 

@@ -18,7 +18,7 @@ invariant_of-result g c =
       grown = c.chains_grow.ensures.only;
     } in
     rw (c.in-Ok.ensures.added, c.into_sealed_and_ledger-sealed.ensures) (
-      with_job c.requires.held.0 (in_format current (fields_of_job c.args.job)),
+      with_job c.requires.held.0 (in_format current (fields_of_job c.args.job)) c.in_ok-publication.publication.sealed,
       after_is layers c.requires.held.0 (record { parts = c.args.store; ledger = c.args.ledger }) (fields_of_job c.args.job) c.in_ok-publication.publication
           c.requires.held.1 c.requires.fits c.requires.within (c.in_ok-publication.ensures (λ e. cc)),
     )
