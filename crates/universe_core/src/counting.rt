@@ -2,17 +2,10 @@ ghost use Rattle.std.specs.Prelude.{◌≡◌, ◌≤◌, length};
 ghost use Rattle.std.specs.List.{count_by};
 
 /// How many of the flags are set.
-fn count_set(flags: &[bool]) -> usize
-    ensures { result ≡ count_by (λ b. b) flags.now }
-{
-    flags.iter().filter(|flag| **flag).count()
-}
-
-/// How many of the flags are set.
 pub(crate) fn set_flags(flags: &[bool]) -> u32
     requires { length flags.now ≤ 4294967295 }
     ensures { result ≡ count_by (λ b. b) flags.now }
 {
-    let count = count_set(flags);
+    let count = flags.iter().filter(|flag| **flag).count();
     count as u32
 }

@@ -5,6 +5,7 @@ ghost use Rattle.std.specs.List.Sorted.{IsStrictlySortedBy};
 ghost use Rattle.ident_core.specs.Order.{identity_cmp, is_same as same};
 ghost use Rattle.ledger_core.specs.LedgerFields.{ids};
 
+use crate::serial_key::key_of;
 use ident_core::Identity;
 use ledger_core::LedgerItem;
 use log_core::Entry;
@@ -23,17 +24,12 @@ struct Guesses {
     first: Option<usize>,
     /// How many may still be made.
     left: u8,
-    /// The head of the serial that is searched for, if it has eight octets.
+    /// The head of the serial that is searched for, if there is one.
     head: Option<u64>,
     /// The head of the item just before the places that are left, if it is among heads that ascend with this one.
     below: Option<u64>,
     /// The head of the item just behind them, likewise.
     above: Option<u64>,
-}
-
-fn head(id: &Identity) -> Option<u64> {
-    let first = id.serial.bytes().first_chunk::<8>()?;
-    Some(u64::from_be_bytes(*first))
 }
 
 /// The head of an item with the issuer of the identity and a serial as long. Those stand together, and their heads
@@ -42,7 +38,7 @@ fn head_beside(item: &LedgerItem, id: &Identity) -> Option<u64> {
     if item.id.issuer != id.issuer || item.id.serial.bytes().len() != id.serial.bytes().len() {
         return None;
     }
-    head(&item.id)
+    Some(key_of(&item.id.serial).head)
 }
 
 impl Guesses {
@@ -50,7 +46,7 @@ impl Guesses {
         Guesses {
             first,
             left: MAX_GUESSES,
-            head: id.and_then(|id| head(id)),
+            head: id.map(|id| key_of(&id.serial).head),
             below: None,
             above: None,
         }

@@ -120,12 +120,6 @@ pub fn copied_ranges(alloc: Global, ranges: &[Range]) -> Result<Vec<Range>, Allo
     ranges.iter().copied().collect(alloc)
 }
 
-fn copied_keys(alloc: Global, keys: &[Key32]) -> Result<Vec<Key32>, AllocError>
-    ensures { IfOk result (λ out. out.items ≡ keys.now) }
-{
-    keys.iter().copied().collect(alloc)
-}
-
 /// The head of the part that follows these.
 pub(crate) fn next_head(alloc: Global, parts: &[LedgerPart], job: &Job) -> Result<Head, AllocError>
     requires { RangesFit job.now.ranges.items }
@@ -142,7 +136,7 @@ fn copied_part(alloc: Global, part: &LedgerPart) -> Result<LedgerPart, AllocErro
     ensures { IfOk result (λ p. part_fields p ≡ part_fields part.now) }
 {
     let ranges = copied_ranges(alloc, &part.ranges)?;
-    let issuers = copied_keys(alloc, &part.issuers)?;
+    let issuers = part.issuers.iter().copied().collect::<Vec<Key32>>(alloc)?;
     Ok(LedgerPart {
         epoch: part.epoch,
         trailer: part.trailer,

@@ -1,4 +1,4 @@
-ghost use Rattle.std.specs.Prelude.{◌≡◌, ℕ, List, IfOk, All, IsPermutation};
+ghost use Rattle.std.specs.Prelude.{◌≡◌, ℕ, List, IfOk, All};
 ghost use Rattle.ident_core.specs.Sets.{has_key};
 ghost use Rattle.universe_core.specs.Marking.{IsListed, listed_in};
 
@@ -14,23 +14,16 @@ pub(crate) struct Listed<'a> {
     pub(crate) key: SerialKey,
 }
 
-fn with_key(serial: &Serial) -> Listed<'_>
-    ensures serial { result.serial.now ≡ serial.now }
-    ensures key { IsListed result }
-{
-    Listed {
-        serial,
-        key: key_of(serial),
-    }
-}
-
 fn with_keys<'a>(alloc: Global, serials: &'a [Serial]) -> Result<Vec<Listed<'a>>, AllocError>
     ensures serials { IfOk result (λ out. listed_in out.items ≡ serials.now) }
     ensures keys { IfOk result (λ out. All IsListed out.items) }
 {
     let mut out = Vec::with_capacity(alloc, serials.len())?;
     for serial in serials {
-        out.push(with_key(serial))?;
+        out.push(Listed {
+            serial,
+            key: key_of(serial),
+        })?;
     }
     Ok(out)
 }
@@ -39,14 +32,7 @@ fn order(x: &Listed<'_>, y: &Listed<'_>) -> Ordering {
     order_serials(x.serial, x.key, y.serial, y.key)
 }
 
-/// Sorted, so that searches one after the other look at places near each other.
-fn sort(listed: &mut Vec<Listed<'_>>)
-    ensures { IsPermutation listed.old.items listed.new.items }
-{
-    listed.sort_unstable_by(|x, y| order(x, y));
-}
-
-/// These serials, sorted.
+/// These serials, sorted, so that searches one after the other look at places near each other.
 pub(crate) fn sorted<'a>(
     alloc: Global,
     serials: &'a [Serial],
@@ -55,6 +41,6 @@ pub(crate) fn sorted<'a>(
     ensures keys { IfOk result (λ out. All IsListed out.items) }
 {
     let mut out = with_keys(alloc, serials)?;
-    sort(&mut out);
+    out.sort_unstable_by(|x, y| order(x, y));
     Ok(out)
 }

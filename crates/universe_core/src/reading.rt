@@ -42,13 +42,6 @@ struct Told {
     entry: Option<ReadEntry>,
 }
 
-/// Of an entry that isn't read.
-fn passed_over(class: Class) -> Told
-    ensures { result ≡ record { class = class; entry = None } }
-{
-    Told { class, entry: None }
-}
-
 /// What is told of an entry.
 #[tactic(auto, using(crate::proofs::Classes::class_unread))]
 fn classify(ranges: &[Range], issuers: &[Key32], entry: &Option<Entry>) -> Told
@@ -60,13 +53,22 @@ fn classify(ranges: &[Range], issuers: &[Key32], entry: &Option<Entry>) -> Told
     ensures placed { IfSome result.entry (IsPlaced issuers.now ranges.now) }
 {
     let Some(entry) = entry else {
-        return passed_over(Class::Unread);
+        return Told {
+            class: Class::Unread,
+            entry: None,
+        };
     };
     let Some(near) = place_covering(ranges, &entry.sighting) else {
-        return passed_over(Class::Uncovered);
+        return Told {
+            class: Class::Uncovered,
+            entry: None,
+        };
     };
     let Some(place) = place_of_key(issuers, &entry.id.issuer) else {
-        return passed_over(Class::Unenrolled);
+        return Told {
+            class: Class::Unenrolled,
+            entry: None,
+        };
     };
     let one = ReadEntry {
         time: entry.sighting.time,

@@ -6,7 +6,7 @@ use Rattle.universe_core.proofs.IssuerRuns.{same_listed}
 use Rattle.universe_core.proofs.listing.sorted.Goals as goal
 
 pub returns-clause-same : goal.returns-clause-same
-returns-clause-same c = λ x. same_listed c.in_ok-out.out.items c.sort.new.listed.items c.sort.ensures x ∙ ap (λ ks. has_key ks x) c.in_ok-out.ensures.serials
+returns-clause-same c = λ x. same_listed c.in_ok-out.out.items c.sort_unstable_by.new.self.items c.sort_unstable_by.ensures.permutation x ∙ ap (λ ks. has_key ks x) c.in_ok-out.ensures.serials
 
 pub returns-clause-keys : goal.returns-clause-keys
-returns-clause-keys c = All-permutation IsListed c.in_ok-out.out.items c.sort.new.listed.items c.sort.ensures c.in_ok-out.ensures.keys
+returns-clause-keys c = All-permutation IsListed c.in_ok-out.out.items c.sort_unstable_by.new.self.items c.sort_unstable_by.ensures.permutation c.in_ok-out.ensures.keys

@@ -8,30 +8,25 @@ use Rattle.ident_core.specs.Coverage.{is_within}
 use Rattle.ident_core.proofs.Elements.{Among-from_place}
 use Rattle.ident_core.proofs.Sets.{has_key-from_Among}
 use Rattle.universe_core.specs.Reading.{entry_fields}
-use Rattle.universe_core.specs.declared.reading.Told.{Told}
 use Rattle.universe_core.proofs.Classes.{class_uncovered, class_unenrolled, class_accepted, date_again, entry_is, read_is, not_covered, not_enrolled}
 use Rattle.universe_core.proofs.Searchable.{place_within}
 use Rattle.universe_core.proofs.reading.classify.Goals as goal
 
 pub returns-in_default-place_covering-clause-class : goal.returns-in_default-place_covering-clause-class
 returns-in_default-place_covering-clause-class c =
-    ap (λ (t : Told). t.class) c.passed_over-in_default-place_covering.ensures
-    ∙ rw c.in-Some.is (class_uncovered c.args.ranges.now c.args.issuers.now c.in-Some.entry (sym c.place_covering.ensures.covers ∙ ap is_some c.in_default-place_covering.is))
+    rw c.in-Some.is (class_uncovered c.args.ranges.now c.args.issuers.now c.in-Some.entry (sym c.place_covering.ensures.covers ∙ ap is_some c.in_default-place_covering.is))
 
 pub returns-in_default-place_covering-clause-entry : goal.returns-in_default-place_covering-clause-entry
 returns-in_default-place_covering-clause-entry c =
-    ap (λ (t : Told). option_map (entry_fields c.args.issuers.now c.args.ranges.now) t.entry) c.passed_over-in_default-place_covering.ensures
-    ∙ rw c.in-Some.is (not_covered c.args.ranges.now c.args.issuers.now c.in-Some.entry (sym c.place_covering.ensures.covers ∙ ap is_some c.in_default-place_covering.is))
+    rw c.in-Some.is (not_covered c.args.ranges.now c.args.issuers.now c.in-Some.entry (sym c.place_covering.ensures.covers ∙ ap is_some c.in_default-place_covering.is))
 
 pub returns-in_default-place_of_key-clause-class : goal.returns-in_default-place_of_key-clause-class
 returns-in_default-place_of_key-clause-class c =
-    ap (λ (t : Told). t.class) c.passed_over-in_default-place_of_key.ensures
-    ∙ rw c.in-Some.is (class_unenrolled c.args.ranges.now c.args.issuers.now c.in-Some.entry (sym c.in-Some-place_covering.ensures.covers) (c.in_default-place_of_key.ensures.none refl))
+    rw c.in-Some.is (class_unenrolled c.args.ranges.now c.args.issuers.now c.in-Some.entry (sym c.in-Some-place_covering.ensures.covers) (c.in_default-place_of_key.ensures.none refl))
 
 pub returns-in_default-place_of_key-clause-entry : goal.returns-in_default-place_of_key-clause-entry
 returns-in_default-place_of_key-clause-entry c =
-    ap (λ (t : Told). option_map (entry_fields c.args.issuers.now c.args.ranges.now) t.entry) c.passed_over-in_default-place_of_key.ensures
-    ∙ rw c.in-Some.is (not_enrolled c.args.ranges.now c.args.issuers.now c.in-Some.entry (c.in_default-place_of_key.ensures.none refl))
+    rw c.in-Some.is (not_enrolled c.args.ranges.now c.args.issuers.now c.in-Some.entry (c.in_default-place_of_key.ensures.none refl))
 
 pub overflow_cast-one : goal.overflow_cast-one
 overflow_cast-one c =
