@@ -1,13 +1,11 @@
 use Rattle.std.proofs.Common.{◌∙◌, Some, refl, sym, ap, arith}
 use Rattle.std.specs.Int.{w64}
-use Rattle.std.specs.Option.{option_map}
 use Rattle.std.specs.Prelude.{is_some}
 use Rattle.std.proofs.lemmas.Int.{to_z-of_z, ints}
 use Rattle.std.proofs.lemmas.Option.{slice_get_within}
 use Rattle.ident_core.specs.Coverage.{is_within}
 use Rattle.ident_core.proofs.Elements.{Among-from_place}
 use Rattle.ident_core.proofs.Sets.{has_key-from_Among}
-use Rattle.universe_core.specs.Reading.{entry_fields}
 use Rattle.universe_core.proofs.Classes.{class_uncovered, class_unenrolled, class_accepted, date_again, entry_is, read_is, not_covered, not_enrolled}
 use Rattle.universe_core.proofs.Searchable.{place_within}
 use Rattle.universe_core.proofs.reading.classify.Goals as goal
