@@ -8,7 +8,7 @@ use Rattle.job_core.specs.Fitting.{FitsFields}
 use Rattle.publication_core.specs.Histories.{Published, of_jobs, IsHistory}
 use Rattle.input_core.specs.Inputs.{Inputs, rest_of}
 use Rattle.command_core.specs.ReplyFields.{Done, NamedFault}
-use Rattle.command_core.specs.Commands.{rehearsed, IsFileRefused, AreRehearsed, Rehearses}
+use Rattle.command_core.specs.Commands.{rehearsed, IsFileRefused, AreReadMembers, Rehearses}
 use Rattle.command_core.specs.Steps.{RehearsesOn}
 use Rattle.command_core.proofs.Chains.{first_jobs}
 
@@ -34,7 +34,7 @@ record Behind
   pub jobs : List Published
   pub all : List Published
   pub are : all ≡ before ++ jobs
-  pub hold : AreRehearsed (take n names) inputs jobs
+  pub hold : AreReadMembers (take n names) inputs jobs
   pub fit : All Fits jobs
   pub is_history : IsHistory (of_jobs all)
   pub then : Then queries all n names inputs o
@@ -85,7 +85,7 @@ first_of queries names inputs o m =
     record {
       n = b.n;
       jobs = b.all;
-      hold = subst (λ (ps : List Published). AreRehearsed (take b.n names) inputs ps) (sym b.are) b.hold;
+      hold = subst (λ (ps : List Published). AreReadMembers (take b.n names) inputs ps) (sym b.are) b.hold;
       fit = subst (All Fits) (sym b.are) b.fit;
       is_history = b.is_history;
       then = b.then;
@@ -118,7 +118,7 @@ then_rest queries all n name names inputs o (inl (is, done)) = inl (omega (arith
 then_rest queries all n name names inputs o (inr refused) = inr refused
 
 back : (queries : List Query) (before : List Published) (names : List (List ℕ))
-    (inputs : Inputs) (o : Result Done NamedFault) (n : ℕ) (jobs : List Published) → AreRehearsed (take n names) inputs jobs
+    (inputs : Inputs) (o : Result Done NamedFault) (n : ℕ) (jobs : List Published) → AreReadMembers (take n names) inputs jobs
     → All Fits jobs → IsHistory (of_jobs (before ++ jobs)) → Then queries (before ++ jobs) n names inputs o → RehearsesOn queries before names inputs o
 back queries before [] inputs o zero [] hold fit is then =
     none_left queries before 0 inputs o (subst (λ (ps : List Published). Then queries ps 0 [] inputs o) (append-nil before) then)

@@ -26,7 +26,7 @@ use Rattle.word_core.specs.declared.command.{Audit.Audit}
 use Rattle.command_core.specs.ReplyFields.{Done, NamedFault, ReplyFields}
 use Rattle.input_core.specs.Inputs.{Inputs, rest_of}
 use Rattle.input_core.specs.Readings.{queries_in, job_in, ledger_in, store_in}
-use Rattle.command_core.specs.Commands.{input, published_as, MakesPart, MakesSnapshot, MakesDelta, IsFileRefused, IsJob, MakesRehearsal, Makes}
+use Rattle.command_core.specs.Commands.{input, published_as, MakesPart, MakesSnapshot, MakesDelta, IsFileRefused, IsReadMember, MakesRehearsal, Makes}
 use Rattle.command_core.specs.Audits.{audit_jobs, audited_as, MakesAudit}
 use Rattle.command_core.specs.Rebasings.{cut_without, rebased_as, MakesRebase}
 use Rattle.command_core.specs.Steps.{RehearsesOn}
@@ -117,14 +117,14 @@ module _ (publishing : Publishing) where
       same ∙ ap (λ (k : PublishFault). record { name = name; fault = of_publishing k }) w ∙ sym same_other
 
   pub refused_follows : (ps : List Published) (name : List ℕ) (given : Option (List ℕ)) (e : NamedFault) (p : Published) (others : List Published)
-      → IsHistory (of_jobs ps) → IsJob name given p → IsHistory (of_jobs (ps ++ p ∷ others)) → IsFileRefused (of_jobs ps) name given e → ⊥
+      → IsHistory (of_jobs ps) → IsReadMember name given p → IsHistory (of_jobs (ps ++ p ∷ others)) → IsFileRefused (of_jobs ps) name given e → ⊥
   refused_follows ps name given e p others is is_job is_all (inl h) = not_both p.job.job e (input name job_in given) is_job.0 h
   refused_follows ps name given e p others is is_job is_all (inr (other, fault, is_other, not, same)) =
       not_published ps p others fault is is_job.1 is_all
       (subst (λ (k : JobFields). Publishes (ledger_of (releases_of (of_jobs ps))) k (Err fault)) (job_same other p.job.job (input name job_in given) is_other is_job.0) not)
 
   -- two members that are read of the same file have the same part
-  pub member_same : (ps : List Published) (name : List ℕ) (given : Option (List ℕ)) (p q : Published) → IsJob name given p → IsJob name given q
+  pub member_same : (ps : List Published) (name : List ℕ) (given : Option (List ℕ)) (p q : Published) → IsReadMember name given p → IsReadMember name given q
       → IsHistory (of_jobs (ps ++ p ∷ [])) → IsHistory (of_jobs (ps ++ q ∷ [])) → p ≡ q
   member_same ps name given p q x y is is_other =
       let rs : List Release = releases_of (of_jobs ps) in

@@ -198,15 +198,15 @@ AreJobs (name ∷ names) inputs (job ∷ jobs) =
 AreJobs names inputs jobs = ⊥
 
 -- the input of this name was read as this job, in the current format
-abbrev pub IsJob : List ℕ → Option (List ℕ) → Published → Type 0
-IsJob name given p = (input name job_in given ≡ Ok p.job.job) × (p.job.format ≡ current)
+abbrev pub IsReadMember : List ℕ → Option (List ℕ) → Published → Type 0
+IsReadMember name given p = (input name job_in given ≡ Ok p.job.job) × (p.job.format ≡ current)
 
 -- the inputs of these names were read as these jobs
-abbrev pub AreRehearsed : List (List ℕ) → Inputs → List Published → Type 0
-AreRehearsed [] inputs [] = Unit {0}
-AreRehearsed (name ∷ names) inputs (p ∷ ps) = IsJob name (inputs 0) p × AreRehearsed names (rest_of inputs) ps
+abbrev pub AreReadMembers : List (List ℕ) → Inputs → List Published → Type 0
+AreReadMembers [] inputs [] = Unit {0}
+AreReadMembers (name ∷ names) inputs (p ∷ ps) = IsReadMember name (inputs 0) p × AreReadMembers names (rest_of inputs) ps
 -- as many jobs as names: others aren't
-AreRehearsed names inputs ps = ⊥
+AreReadMembers names inputs ps = ⊥
 
 -- What comes of files that are rehearsed. The first n of them hold the jobs of a history. Either these are all, and the
 -- parts of the history are asked the queries; or the next file doesn't follow it, and that is what is wrong.
@@ -215,7 +215,7 @@ pub record Rehearses
     : Type 0 where
   pub n : ℕ
   pub jobs : List Published
-  pub hold : AreRehearsed (take n names) inputs jobs
+  pub hold : AreReadMembers (take n names) inputs jobs
   -- keys, serials and times fit their fields
   pub fit : All (λ p. FitsFields p.job.job) jobs
   pub is_history : IsHistory (of_jobs jobs)
