@@ -19,14 +19,16 @@ here by cc and loaded before the C library. With --toolchain only these allocati
 by `rt try --fail-alloc`, which compiles the whole program anew for each.
 """
 
+import base64
 import collections
+import json
 import os
 import subprocess
 import sys
 import tempfile
 
 from program import path_of_program
-from reference import Base, T, History, at_place, queries_bytes, sample, store, text_of, verdict, without
+from reference import Base, T, History, Job, at_place, place, queries_bytes, sample, store, text_of, verdict, without
 from three_jobs import JOBS, K1, LA, QUERIES
 
 SHIM = r"""
@@ -111,6 +113,33 @@ def files_and_runs():
         Run("check /P1", [f"part delta epoch 2 ranges 1 issuers 1 bytes {len(parts[1].bytes)}"], {}),
         Run("show /P1", parts[1].shown().splitlines(), {}),
         Run("sample 7 1 /X", made_line.splitlines(), {"X": made}),
+    ]
+    more, others = runs_of_pieces(JOBS[1])
+    return files | more, runs + others
+
+
+def page_of(entries):
+    """A log's page of these entries."""
+    items = [{"leaf_input": entry.leaf, "extra_data": entry.extra} for entry in entries]
+    spelled = [{key: base64.b64encode(octets).decode() for key, octets in item.items()} for item in items]
+    return json.dumps({"entries": spelled}).encode()
+
+
+def runs_of_pieces(job):
+    """Files that a job of one log is made of, and the runs that make it of them, or cut it."""
+    head = Job(job.epoch, job.moment, job.ranges, job.crls, []).bytes()
+    pieces = [Job(job.epoch, job.moment, [], [], [entry]).bytes() for entry in job.entries]
+    cut = [Job(job.epoch, job.moment, job.ranges, job.crls, []) for _ in range(2)]
+    for entry in job.entries:
+        cut[place(entry.id, 2)].entries.append(entry)
+    whole, count = job.bytes(), len(job.entries)
+    files = {"H": head, "A": page_of(job.entries), **{f"M{at}": piece for at, piece in enumerate(pieces)}}
+    made = f"entries {count} bytes {len(whole)}"
+    names = " ".join(f"/M{at}" for at in range(count))
+    runs = [
+        Run(f"gather /H {job.entries[0].log.hex()} /X /A", [f"gather pages 1 {made}"], {"X": whole}),
+        Run(f"merge /H /X {names}", [f"merge pieces {count} {made}"], {"X": whole}),
+        Run("cut identity /J1 /X /Y", [f"cut pieces 2 {made}"], {"X": cut[0].bytes(), "Y": cut[1].bytes()}),
     ]
     return files, runs
 

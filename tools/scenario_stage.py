@@ -271,13 +271,13 @@ def unrolled(lines: Sequence[str]) -> Iterator[str]:
             yield line
             continue
         match line.split():
-            case ["for", name, first, "to", last]:
+            case ["for", "N", first, "to", last]:
                 body = loop_body(places)
             case _:
                 raise BadLine(line)
         for number in range(int(first), int(last) + 1):
             for inner in body:
-                yield numbered(inner, name, number)
+                yield numbered(inner, number)
 
 
 def loop_body(places: Iterator[str]) -> list[str]:
@@ -292,9 +292,9 @@ def loop_body(places: Iterator[str]) -> list[str]:
     raise BadLine("a loop without its end")
 
 
-def numbered(line: str, name: str, number: int) -> str:
+def numbered(line: str, number: int) -> str:
     """The line of a loop for one of its numbers."""
-    for word, value in ((name, number), (f"{name}-1", number - 1), (f"{name}+1", number + 1)):
+    for word, value in (("N", number), ("N-1", number - 1), ("N+1", number + 1)):
         line = line.replace(f"{{{word}}}", str(value))
     return line
 
