@@ -13,7 +13,8 @@ job that is merged or gathered must be that one. The places are those of a job o
 the largest of which have a hundred times what the smallest have; the jobs of places must be those that are cut of it.
 The limits: `merge` alone, and `cut` and `merge` together, take at most 0.5 of the processor time of `snapshot` with one
 worker; `merge` takes as much memory for 64 pieces as for one, within a tenth; four places at once take at most 1.25 of
-a quarter of what all take one after the other, by the clock. Where one is passed the status is 1.
+a quarter of what all take one after the other, by the clock. Where one is passed the status is 1. No output of `merge`
+and `cut` is there before, as in the publisher and the fleet, where each is written under a new name.
 """
 
 import base64
@@ -24,6 +25,7 @@ import sys
 import tempfile
 import time
 from concurrent.futures import ThreadPoolExecutor
+from contextlib import suppress
 from subprocess import DEVNULL, Popen, run
 
 from workers import digest, memory, timed
@@ -105,11 +107,19 @@ def at_once(commands):
     return time.monotonic() - start
 
 
+def remove(names):
+    """Removes the files that are there."""
+    for name in names:
+        with suppress(FileNotFoundError):
+            os.remove(name)
+
+
 def least(commands, runs):
     """The least seconds of each command by the clock and of processors, in turns, and its memory in KiB."""
     took = {name: [] for name in commands}
     for _ in range(runs):
         for name, command in commands.items():
+            remove(command[3:4] if command[1] == "merge" else [])
             took[name].append(timed(command)[:2])
     return {name: (*map(min, zip(*took[name])), memory(command)) for name, command in commands.items()}
 
@@ -203,6 +213,7 @@ class Wide:
         """The commands that make the jobs of all places from the head and the pieces."""
         heads, jobs = self.names(by, "head"), self.names(by, "job")
         cuts = [self.names(by, f"{at}.piece") for at in range(TOGETHER)]
+        remove(heads + jobs + sum(cuts, []))
         yield [self.program, "cut", by, self.head, *heads]
         for piece, names in zip(self.pieces, cuts):
             yield [self.program, "cut", by, piece, *names]
