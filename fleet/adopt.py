@@ -6,7 +6,7 @@
 LEDGER is the newest, STORE has all parts, and the jobs are all that were published, in order. Copies lie in FOLDER,
 an epoch's in `1`, `2` and so on, of which EPOCH's `[before]` names all. Nothing is tested here: the next epoch's part
 fits behind STORE only where LEDGER is its own, and the audit holds STORE against all jobs. The chain is taken as one
-that isn't cut. One that a rebase began can't go on here, since its audit wants the jobs before it.
+that isn't cut. One that a rebase began goes on by `[rebase]` alone, which reads no job: any one may be named.
 """
 
 import json
@@ -20,8 +20,9 @@ sys.path[:0] = [str(HERE.parent), str(HERE.parent / "python")]
 
 from clubcard.places import WHOLE  # noqa: E402
 from clubcard.placing import digest_of, make_folder, place, settle  # noqa: E402
+from fleet.chains import PUBLISHED  # noqa: E402
 from fleet.made import File  # noqa: E402
-from fleet.plan import MOST_NAMES, PUBLISHED  # noqa: E402
+from fleet.plan import MOST_NAMES  # noqa: E402
 
 
 def adopt(folder: Path, files: dict[str, Path]) -> None:

@@ -3,12 +3,14 @@
 import re
 from pathlib import Path
 
+from clubcard.places import Places, names_of
 from clubcard.places_table import read_places
 from clubcard.tables import Table, read_config
 
-from .plan import MOST_NAMES, PUBLISHED, Before, Log, Plan, pages_in, program_of, test
+from .chains import PUBLISHED, Before, Rebase, first_of, origins_of, places_in
+from .plan import MOST_NAMES, Log, Plan, pages_in, program_of, test
 
-_KEYS = "epoch moment program workers pages places before crl log".split()
+_KEYS = "epoch moment program workers pages places before rebase crl log".split()
 _MOST = (1 << 64) - 1
 
 
@@ -18,7 +20,8 @@ def load(path: Path) -> Plan:
     table.only(_KEYS)
     crls = tuple(_crl(each, base) for each in table.tables("crl"))
     logs = tuple(_log(each, base) for each in table.tables("log"))
-    before = _before(table, base) if "before" in table.values else None
+    places = read_places(table)
+    before, rebase = _before(table, base, places)
     read = [file for _, file in crls] + [page for log in logs for page in log.pages]
     read += [f"{folder}/{PUBLISHED}" for folder in before.folders] if before else []
     plan = Plan(
@@ -29,8 +32,9 @@ def load(path: Path) -> Plan:
         most=table.number("pages", 256, 1, MOST_NAMES),
         crls=crls,
         logs=tuple(sorted(logs, key=lambda log: log.log)),
-        places=read_places(table),
+        places=places,
         before=before,
+        rebase=rebase,
         seen={file: _seen(file) for file in read},
     )
     test(plan)
@@ -67,10 +71,29 @@ def _log(table: Table, base: Path) -> Log:
     return Log(_key(table, "log"), low, high, pages_in(base / table.text("pages", '"pages"')))
 
 
-def _before(top: Table, base: Path) -> Before:
+def _before(top: Table, base: Path, places: Places | None) -> tuple[Before | None, Rebase | None]:
+    """The chains so far, and which of them begin anew."""
+    if "before" not in top.values:
+        if "rebase" in top.values:
+            raise top.fault("[rebase] wants chains that begin anew: name their epochs in [before]")
+        return None, None
     table = Table(f"{top.place}: [before]", top.value("before", dict, "[before], a table"))
     table.only(("folders",))
-    return Before(tuple(str(base / folder) for folder in table.texts("folders", '["1"]')))
+    folders = tuple(str(base / folder) for folder in table.texts("folders", '["1"]'))
+    rebase = _rebase(top, places_in(folders[-1]), places)
+    going = [name for name in names_of(places) if rebase is None or name not in rebase.origins]
+    return Before(folders, first_of(folders, places, going)), rebase
+
+
+def _rebase(top: Table, old: Places | None, new: Places | None) -> Rebase | None:
+    """Which chains begin anew."""
+    if "rebase" not in top.values:
+        origins_of(old, new, ())
+        return None
+    table = Table(f"{top.place}: [rebase]", top.value("rebase", dict, "[rebase], a table"))
+    table.only(("moment", "places"))
+    names = table.texts("places", '["0003"]') if "places" in table.values else names_of(old)
+    return Rebase(_number(table, "moment", "1690000000000"), origins_of(old, new, names))
 
 
 def _seen(file: str) -> tuple[int, int]:

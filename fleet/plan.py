@@ -5,12 +5,11 @@ import shutil
 from collections.abc import Mapping
 from dataclasses import asdict, dataclass
 from pathlib import Path
-from typing import Any
 
 from clubcard.jobs import MOST_CRLS, MOST_RANGES
 from clubcard.places import WHOLE, Places, names_of, number_name
 
-from .made import File
+from .chains import BASE, Before, Chain, PlanError, Rebase, anew
 
 PLAN = "plan.json"
 HEADS = "heads"
@@ -19,15 +18,10 @@ HEAD = "head.job"
 """A job with the epoch's ranges and CRLs, and no entries."""
 BARE = "piece.job"
 """A job of the epoch with nothing in it, behind which the entries of a piece stand."""
-PUBLISHED = "published.json"
 MADE = ("job", "part", "ledger", "store")
 """What is made of each place."""
 MOST_NAMES = 1024
 """How many pages the program gathers at once, how many pieces it merges, and how many jobs of a chain are there."""
-
-
-class PlanError(Exception):
-    """EPOCH can't be used; the text says why and what to do."""
 
 
 @dataclass(frozen=True)
@@ -38,37 +32,6 @@ class Log:
     low: int
     high: int
     pages: tuple[str, ...]
-
-
-@dataclass(frozen=True)
-class Before:
-    """The chain so far: the folder of each epoch, in order."""
-
-    folders: tuple[str, ...]
-
-    def ledger(self, place: str) -> str:
-        """The newest ledger."""
-        return f"{self.folders[-1]}/{place}/ledger"
-
-    def store(self, place: str) -> str:
-        """The newest store."""
-        return f"{self.folders[-1]}/{place}/store"
-
-    def jobs(self, place: str) -> tuple[str, ...]:
-        """All jobs in order."""
-        return tuple(f"{folder}/{place}/job" for folder in self.folders)
-
-    def files(self, place: str) -> tuple[str, ...]:
-        """What is read of a place."""
-        return self.ledger(place), self.store(place), *self.jobs(place)
-
-    def published(self) -> dict[str, File]:
-        """All files that were published."""
-        return {
-            f"{folder}/{name}": File(**file)
-            for folder in self.folders
-            for name, file in published_in(folder)["files"].items()
-        }
 
 
 @dataclass(frozen=True)
@@ -89,6 +52,8 @@ class Plan:
     """None where all is one place, `whole`."""
     before: Before | None
     """None in the first epoch of a chain."""
+    rebase: Rebase | None
+    """Which chains begin anew."""
     seen: Mapping[str, tuple[int, int]]
     """The size of each file that is read, and when it was written (ns)."""
 
@@ -102,9 +67,10 @@ class Plan:
         fields = json.loads(text)
         fields["crls"] = tuple((issuer, file) for issuer, file in fields["crls"])
         fields["logs"] = tuple(Log(log["log"], log["low"], log["high"], tuple(log["pages"])) for log in fields["logs"])
-        places, before = fields["places"], fields["before"]
+        places, before, rebase = fields["places"], fields["before"], fields["rebase"]
         fields["places"] = places and Places(**places)
-        fields["before"] = before and Before(tuple(before["folders"]))
+        fields["before"] = before and Before(tuple(before["folders"]), before["first"])
+        fields["rebase"] = rebase and Rebase.of_members(**rebase)
         fields["seen"] = {file: (size, time) for file, (size, time) in fields["seen"].items()}
         return cls(**fields)
 
@@ -125,10 +91,30 @@ class Plan:
         """The names of all places in order."""
         return names_of(self.places)
 
+    def anew(self) -> list[str]:
+        """The names of the places whose chains begin anew."""
+        return sorted(self.rebase.origins) if self.rebase else []
+
+    def chain(self, place: str) -> Chain | None:
+        """From what a place's chain goes on; None where it begins."""
+        if place in self.anew():
+            return anew(place)
+        return self.before.chain(place) if self.before else None
+
+    def old_ledger(self, place: str) -> str:
+        """Of which ledger a place's chain begins anew."""
+        assert self.before is not None and self.rebase is not None
+        return self.before.ledger(self.rebase.origins[place].place)
+
     def records(self) -> list[str]:
         """By their names, the records of all that is made."""
         places = [f"{place}/{name}" for place in self.names() for name in ("job", "part", "store")]
-        return [HEADS, *self.pieces(), *places]
+        return [HEADS, *self.pieces(), *map(base_of, self.anew()), *places]
+
+    def published(self) -> list[str]:
+        """The names of all files that are published."""
+        made = [f"{place}/{name}" for place in self.names() for name in MADE]
+        return [HEAD, *(f"{place}/{name}" for place in self.anew() for name in BASE), *made]
 
     def folders(self) -> list[str]:
         """The folders of what is made."""
@@ -150,10 +136,9 @@ def head_of(place: str) -> str:
     return HEAD if place == WHOLE else f"{place}/head"
 
 
-def published_in(folder: str) -> dict[str, Any]:
-    """What was published of an epoch."""
-    found: dict[str, Any] = json.loads((Path(folder) / PUBLISHED).read_text(encoding="utf-8"))
-    return found
+def base_of(place: str) -> str:
+    """The name of what a chain begins anew with."""
+    return f"{place}/base"
 
 
 def read_plan() -> Plan:
@@ -177,21 +162,8 @@ def test(plan: Plan) -> None:
     for what, count, most, remedy in many:
         if count > most:
             raise PlanError(f"{count} {what}, and at most {most} are taken: {remedy}")
-    for folder in plan.before.folders if plan.before else ():
-        _test_places(plan.places, folder)
     if len({log.log for log in plan.logs}) < len(plan.logs):
         raise PlanError("a log stands twice: put its pages into one folder")
-
-
-def _test_places(places: Places | None, folder: str) -> None:
-    """Tests that an epoch before has the same places."""
-    found = published_in(folder).get("places")
-    before = found and Places(**found)
-    if before != places:
-        raise PlanError(
-            f"{folder}: its places are {before or WHOLE}, and here they are {places or WHOLE}: "
-            "write the same [places], or leave [before] out, which begins new chains"
-        )
 
 
 def program_of(word: str, base: Path) -> str:

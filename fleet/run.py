@@ -23,8 +23,9 @@ sys.path[:0] = [str(HERE.parent), str(HERE.parent / "python")]
 from clubcard.lock import Locked, locked  # noqa: E402
 from clubcard.placing import digest_of, make_folder, place, settle, sweep  # noqa: E402
 from clubcard.tables import ConfigError  # noqa: E402
+from fleet.chains import PUBLISHED, PlanError  # noqa: E402
 from fleet.epoch import load  # noqa: E402
-from fleet.plan import PLAN, PUBLISHED, Plan, PlanError  # noqa: E402
+from fleet.plan import PLAN, Plan  # noqa: E402
 
 
 def stop(status: int, text: str) -> NoReturn:

@@ -29,7 +29,7 @@ from clubcard.answers import Verdict  # noqa: E402
 from clubcard.places import By, number_name  # noqa: E402
 from clubcard.store import Store, place  # noqa: E402
 from fleet import slurm_test as slurm  # noqa: E402
-from fleet.plan import PUBLISHED  # noqa: E402
+from fleet.chains import PUBLISHED  # noqa: E402
 from fleet.tests.made_epochs import LOGS, MOST, World  # noqa: E402
 from fleet.tests.sized_epochs import (  # noqa: E402
     AGAIN,

@@ -22,7 +22,7 @@ HERE = Path(__file__).resolve().parent
 sys.path[:0] = [str(HERE.parent), str(HERE.parent / "tools"), str(HERE.parent / "python")]
 
 from clubcard.placing import digest_of  # noqa: E402
-from fleet.plan import PUBLISHED  # noqa: E402
+from fleet.chains import PUBLISHED  # noqa: E402
 from fleet.tests.made_epochs import MOST, World, make_world, wait_until  # noqa: E402
 
 

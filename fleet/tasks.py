@@ -3,6 +3,7 @@
     python3 -m fleet.tasks heads
     python3 -m fleet.tasks gather LOG PIECE
     python3 -m fleet.tasks merge PLACE
+    python3 -m fleet.tasks base PLACE WORKERS
     python3 -m fleet.tasks part PLACE WORKERS
     python3 -m fleet.tasks audit PLACE
     python3 -m fleet.tasks publish
@@ -15,14 +16,17 @@ from collections.abc import Callable, Mapping, Sequence
 from dataclasses import asdict
 from functools import partial
 from pathlib import Path
+from typing import Any
 
 from clubcard.cutting import Lost, divide
-from clubcard.engine import Engine, EngineError
+from clubcard.engine import By, Engine, EngineError, Rebased
 from clubcard.jobs import JobWriter
 from clubcard.places import WHOLE, Places
 
-from .made import Differs, Record, compared, made_in, own_name, put_made, put_text, record_of
-from .plan import BARE, HEAD, HEADS, MADE, PUBLISHED, Plan, at_place, head_of, piece_of, read_plan
+from .bases import Held, held_of, read_ledger, write_base
+from .chains import BASE, PUBLISHED, Rebase
+from .made import Differs, File, Record, compared, made_in, own_name, put_made, put_text, record_of
+from .plan import BARE, HEAD, HEADS, Plan, at_place, base_of, head_of, piece_of, read_plan
 
 COUNTED = ("unread", "uncovered", "unenrolled", "late", "accepted")
 """Of these each entry is one."""
@@ -90,17 +94,59 @@ def merge(plan: Plan, place: str) -> None:
     put_made(path, {path: own}, said, of)
 
 
+def base(plan: Plan, place: str, workers: str) -> None:
+    """With what a place's chain begins anew: the part and the ledger of a rebase or of splits, the store of that part,
+    and the job that audits read, with which the program's line and the store must agree."""
+    assert plan.before is not None and plan.rebase is not None
+    old = plan.old_ledger(place)
+    of = compared([old], plan.before.published())
+    owns = {f"{place}/{name}": own_name(Path(place, name)) for name in BASE}
+    job, part_file, ledger, store = owns.values()
+    engine, found = Engine(plan.program), read_ledger(Path(old))
+    said = _begun(engine, plan.rebase, place, Path(old), part_file, ledger, int(workers))
+    here = write_base(found, plan.rebase.moment, plan.places, place, job)
+    if here != Held(said.issuers, said.universe, said.revoked):
+        raise Differs(f"{place}/base: by the ledger of before it has {here}, and the program says {said}")
+    engine.start(part_file, store)
+    engine.audit(store, [job])
+    origin, held = plan.rebase.origins[place].place, asdict(held_of(found, plan.rebase.moment))
+    put_made(base_of(place), owns, {"place": origin, "held": held, "here": asdict(here)}, of)
+
+
+def _begun(
+    engine: Engine, rebase: Rebase, place: str, old: Path, part_file: Path, ledger: Path, workers: int
+) -> Rebased:
+    """Begins a place's chain anew by the program; the last of its lines."""
+    splits = rebase.origins[place].splits
+    if not splits:
+        return engine.rebase(old, rebase.moment, part_file, ledger, workers)
+    middle = own_name(Path(place, "base.ledger"))
+    for each in splits:
+        new = ledger if each is splits[-1] else middle
+        by = By[each.by.upper()]
+        said = engine.split(old, rebase.moment, by, each.count, each.number, part_file, new, workers)
+        old = new
+    middle.unlink(missing_ok=True)
+    return said
+
+
+def _before(plan: Plan, place: str) -> Mapping[str, File]:
+    """The files from which a place's chain goes on, and others."""
+    if place in plan.anew():
+        return record_of(base_of(place)).files
+    return plan.before.published() if plan.before else {}
+
+
 def part(plan: Plan, place: str, workers: str) -> None:
     """The part of the job, and the ledger behind it."""
     job, path, ledger = (f"{place}/{name}" for name in ("job", "part", "ledger"))
     of, owns = compared([job], record_of(job).files), {name: own_name(Path(name)) for name in (path, ledger)}
-    engine = Engine(plan.program)
-    if plan.before is None:
+    engine, chain = Engine(plan.program), plan.chain(place)
+    if chain is None:
         said = engine.snapshot(job, owns[path], owns[ledger], int(workers))
     else:
-        old = plan.before.ledger(place)
-        of |= compared([old], plan.before.published())
-        said = engine.delta(job, old, owns[path], owns[ledger], int(workers))
+        of |= compared([chain.ledger], _before(plan, place))
+        said = engine.delta(job, chain.ledger, owns[path], owns[ledger], int(workers))
     put_made(path, owns, asdict(said), of)
 
 
@@ -108,14 +154,13 @@ def audit(plan: Plan, place: str) -> None:
     """The store of a client who installed all parts, once it says the truth of all jobs."""
     job, part_file, path = (f"{place}/{name}" for name in ("job", "part", "store"))
     of = compared([job, part_file], made_in(map(record_of, (job, part_file))))
-    own, engine, jobs = own_name(Path(path)), Engine(plan.program), [job]
-    if plan.before is None:
+    own, engine, chain = own_name(Path(path)), Engine(plan.program), plan.chain(place)
+    if chain is None:
         engine.start(part_file, own)
     else:
-        store, jobs = plan.before.store(place), [*plan.before.jobs(place), job]
-        of |= compared([store, *jobs[:-1]], plan.before.published())
-        engine.install(store, part_file, own)
-    said = engine.audit(own, jobs)
+        of |= compared([chain.store, *chain.jobs], _before(plan, place))
+        engine.install(chain.store, part_file, own)
+    said = engine.audit(own, [*(chain.jobs if chain else ()), job])
     put_made(path, {path: own}, asdict(said), of)
 
 
@@ -130,7 +175,9 @@ def publish(plan: Plan) -> None:
     lines = {place: dict(records[f"{place}/part"].said) for place in plan.names()}
     sums = {count: sum(line[count] for line in lines.values()) for count in SUMS}
     _add_up(plan, records, lines, sums)
-    names = [HEAD, *(f"{place}/{name}" for place in plan.names() for name in MADE)]
+    bases = {place: records[base_of(place)].said for place in plan.anew()}
+    _are_whole(bases)
+    names = plan.published()
     compared(names, files)
     text = {
         "epoch": plan.epoch,
@@ -139,6 +186,7 @@ def publish(plan: Plan) -> None:
         "files": {name: asdict(files[name]) for name in names},
         "said": lines,
         "sums": sums,
+        "bases": bases,
     }
     put_text(json.dumps(text, indent=1, sort_keys=True) + "\n", Path(PUBLISHED))
 
@@ -157,7 +205,17 @@ def _add_up(
         raise Differs(f"{gathered} entries were gathered, and all places have {counted}")
 
 
-TASKS = {task.__name__: task for task in (heads, gather, merge, part, audit, publish)}
+def _are_whole(bases: Mapping[str, Mapping[str, Any]]) -> None:
+    """Tests that the places of each old one have together what it held."""
+    for said in bases.values():
+        places = [other["here"] for other in bases.values() if other["place"] == said["place"]]
+        for count in ("universe", "revoked"):
+            have, held = sum(here[count] for here in places), said["held"][count]
+            if have != held:
+                raise Differs(f"{said['place']}: {count}: it held {held}, and the chains that begin anew hold {have}")
+
+
+TASKS = {task.__name__: task for task in (heads, gather, merge, base, part, audit, publish)}
 
 
 def main(words: Sequence[str]) -> None:

@@ -5,6 +5,7 @@
     hold-COMMAND   waits before it writes, until there is a file `go`; `held` then tells the host
     lose-cut       leaves the largest piece without its records
     lose-merge     leaves the largest piece out
+    lose-split     leaves more certificates out
     slow           waits before each `gather` for the seconds in it; stays
     fail           fails each call with a word that has its text in it; stays
 """
@@ -18,7 +19,7 @@ import time
 from collections.abc import Sequence
 from pathlib import Path
 
-OUTPUT = {"gather": 4, "cut": 4, "merge": 3, "snapshot": 3, "delta": 4, "start": 3}
+OUTPUT = {"gather": 4, "cut": 4, "merge": 3, "snapshot": 3, "delta": 4, "start": 3, "rebase": 4, "split": 7}
 """Which word names the first file that a command writes."""
 HEADER = 24
 """How many bytes of a job come before its records."""
@@ -62,6 +63,8 @@ def main() -> None:
     words = sys.argv[1:]
     if command == "merge" and met(faults / "lose-merge"):
         words.remove(str(largest(words[3:])))
+    if command == "split" and met(faults / "lose-split"):
+        words[2] = str(int(words[2]) + 3000)
     os.execv(program, [program, *words])
 
 

@@ -34,6 +34,12 @@ class World:
     folder: Path
     job: Any
     faults: Path
+    before: "World | None" = None
+
+    @property
+    def chain(self) -> "list[World]":
+        """The epochs up to this one."""
+        return [*(self.before.chain if self.before else ()), self]
 
     @property
     def environment(self) -> dict[str, str]:
@@ -80,27 +86,40 @@ def program(*words: str | Path | int) -> str:
 
 
 def entries_of(epoch: int, in_a_page: int) -> list[Any]:
-    """The entries of an epoch, in the order in which they are merged."""
+    """The entries of an epoch, in the order in which they are merged. From the third on one shows some again of the
+    first."""
     count = in_a_page * PAGES * len(LOGS)
     places = [count * epoch + each for each in range(count)]
     half = len(places) // 2
     logs = [(log, places[at * half : (at + 1) * half]) for at, log in enumerate(sorted(LOGS))]
-    return [entry_of(each, log) for log, of_log in logs for each in of_log]
+    again = [count + each for each in range(0, count, 10)] if epoch > 2 else []
+    return [entry_of(each, log) for log, of_log in logs for each in [*again, *of_log]]
 
 
 def entry_of(place: int, log: bytes) -> Any:
-    """An entry; one of a hundred can't be read."""
+    """An entry; one of a hundred can't be read, and one of seven has no date."""
     leaf = b"\0\7" if place % 100 == 7 else None
-    return Entry(ISSUERS[place % 3], serial(place), log, T + place, leaf)
+    return Entry(ISSUERS[place % 3], serial(place), log, T + place, leaf, until=until(place))
+
+
+def until(place: int) -> int | None:
+    """Until when a certificate is valid: a tenth of those with a date are so for a second."""
+    return T // 1000 + place // 7 % 10 if place % 7 else None
+
+
+def is_listed(place: int, epoch: int) -> bool:
+    """Whether the CRLs of an epoch list a certificate. Half of those that are listed from the beginning are dropped by
+    the third, and others come then."""
+    return place % 40 == 0 or place % 40 == (20 if epoch < 3 else 10)
 
 
 def job_of(epoch: int, in_a_page: int) -> Any:
     """The job of an epoch, from 1 on."""
     entries = entries_of(epoch, in_a_page)
-    count = len(entries) * (epoch + 1)
+    count = in_a_page * PAGES * len(LOGS) * (epoch + 1)
     ranges = [(log, T, T + count - 1) for log in sorted(LOGS)]
     crls = [
-        (issuer, Crl([serial(each) for each in range(at, count, 3) if each % 20 == 0]))
+        (issuer, Crl([serial(each) for each in range(at, count, 3) if is_listed(each, epoch)]))
         for at, issuer in enumerate(ISSUERS)
     ]
     return Job(epoch, T, ranges, crls, entries)
@@ -115,12 +134,13 @@ def page_of(entries: Sequence[Any]) -> str:
 def make_world(
     top: Path, epoch: int = 1, before: World | None = None, places: str = "", in_a_page: int = IN_A_PAGE
 ) -> World:
-    """Writes the files of an epoch into a folder. The places are the lines of EPOCH on them."""
+    """Writes the files of an epoch into a folder. The places are the lines of EPOCH on them, and on a rebase."""
     job, folder = job_of(epoch, in_a_page), top / f"epoch{epoch}"
     faults = folder / "faults"
     faults.mkdir(parents=True)
     lines = [f"epoch = {epoch}", f"moment = {T}", f'program = "{FAULTY}"', "workers = 2", "pages = 2", places]
-    lines += ["[before]", f'folders = ["{before.folder}"]'] if before is not None else []
+    folders = ", ".join(f'"{world.folder}"' for world in before.chain) if before else ""
+    lines += ["[before]", f"folders = [{folders}]"] if before else []
     for at, (issuer, crl) in enumerate(job.crls):
         (folder / f"{at}.crl").write_bytes(crl.bytes)
         lines += ["[[crl]]", f'issuer = "{issuer.hex()}"', f'file = "{at}.crl"']
@@ -132,4 +152,4 @@ def make_world(
             (pages / f"{at}.json").write_text(page_of(mine[at : at + in_a_page]))
         lines += ["[[log]]", f'log = "{log.hex()}"', f"from = {low}", f"to = {high}", f'pages = "{pages.name}"']
     (folder / "epoch.toml").write_text("\n".join(lines) + "\n")
-    return World(folder / "epoch.toml", folder / "made", job, faults)
+    return World(folder / "epoch.toml", folder / "made", job, faults, before)

@@ -9,6 +9,7 @@ from dataclasses import replace
 from pathlib import Path
 
 import pytest
+from reference import T
 
 from fleet.plan import HEAD, MADE
 from fleet.tests.made_epochs import LOGS, PROJECT, World, make_world, page_of, program, wait_until
@@ -86,6 +87,25 @@ def test_a_second_epoch_is_a_delta(first: World, tmp_path: Path, is_adopted: boo
     assert (said["epoch"], said["part"], said["accepted"]) == (2, 1, 2970)
 
 
+def test_a_chain_that_a_rebase_began_elsewhere_is_rebased(first: World, tmp_path: Path) -> None:
+    before, moment = first.folder / "whole", T + 2000
+    part, ledger, store, new, last, end = (tmp_path / str(number) for number in range(6))
+    program("rebase", before / "ledger", 0, part, ledger, 1)
+    program("start", part, store)
+    subprocess.run([PROJECT / "fleet" / "adopt.py", tmp_path / "adopted", ledger, store, before / "job"], check=True)
+    adopted_one = replace(first, folder=tmp_path / "adopted" / "1")
+    second = make_world(tmp_path, 2, adopted_one, f"[rebase]\nmoment = {moment}")
+    done = second.run()
+    assert done.returncode == 0, done.stderr
+    program("rebase", ledger, moment, part, new, 1)
+    program("start", part, store)
+    program("delta", gathered(second, tmp_path), new, last, ledger, 1)
+    program("install", store, last, end)
+    names = ("base.part", "base.store", "base.ledger", "part", "ledger", "store")
+    made = [(second.folder / "whole" / name).read_bytes() for name in names]
+    assert made == [file.read_bytes() for file in (part, store, new, last, ledger, end)]
+
+
 def test_killed_tasks_are_run_again(first: World, tmp_path: Path) -> None:
     world = make_world(tmp_path)
     for command in ("gather", "merge", "snapshot", "start"):
@@ -129,6 +149,21 @@ def test_a_late_writer_changes_nothing(first: World, tmp_path: Path) -> None:
     _, told = late.communicate()
     assert late.returncode == 0, told
     assert (times(world), bytes_of(world)) == (before, bytes_of(first))
+
+
+def test_the_profile_of_kubernetes_is_planned(tmp_path: Path) -> None:
+    world = make_world(tmp_path, in_a_page=1)
+    planned = subprocess.run(
+        world.words("--dry-run", "--quiet", profile="kubernetes"),
+        env=world.environment,
+        capture_output=True,
+        text=True,
+        check=False,
+    )
+    assert planned.returncode == 0, planned.stderr
+    # All, six pieces, and heads, merge, part, audit and publish.
+    assert ["total", "12"] in [line.split()[:2] for line in planned.stdout.splitlines()]
+    assert not list(world.folder.rglob("*.made"))
 
 
 def test_a_published_epoch_stays(first: World) -> None:
