@@ -97,6 +97,20 @@ class Fleet:
 
     ask = query
 
+    def query_cert(self, cert: BytesLike, issuer_cert: BytesLike) -> Verdict:
+        """The verdict on a certificate by its own and its issuer's, as `Store.query_cert` gives it."""
+        # Who asks otherwise needs no package but this one.
+        from .pki import PkiError, identity
+
+        leaf, issuer = octets_of(cert, "a certificate"), octets_of(issuer_cert, "an issuer's certificate")
+        try:
+            named = identity(leaf, issuer)
+        except PkiError:
+            # Of what isn't read no place is known. Each store refuses it alike.
+            self.store_at(self.places.names()[0]).query_cert(leaf, issuer)
+            raise Refused(Refusal.CERT_MALFORMED) from None
+        return self.store_of(named.issuer, named.serial).query_cert(leaf, issuer)
+
     def query_each(self, queries: Iterable[Query]) -> list[Verdict | Refusal]:
         """The answers to many queries, as `Store.query_each` gives them."""
         return self._each(list(queries), lambda each: (each.issuer, each.serial), Store.query_each)
