@@ -28,7 +28,8 @@ import sys
 import tempfile
 
 from program import path_of_program
-from reference import Base, T, History, Job, at_place, place, queries_bytes, sample, store, text_of, verdict, without
+from reference import Base, T, History, Job, at_place, ident, place, queries_bytes, sample, store, text_of, verdict
+from reference import without
 from three_jobs import JOBS, K1, LA, QUERIES
 
 SHIM = r"""
@@ -140,6 +141,7 @@ def runs_of_pieces(job):
         Run(f"gather /H {job.entries[0].log.hex()} /X /A", [f"gather pages 1 {made}"], {"X": whole}),
         Run(f"merge /H /X {names}", [f"merge pieces {count} {made}"], {"X": whole}),
         Run("cut identity /J1 /X /Y", [f"cut pieces 2 {made}"], {"X": cut[0].bytes(), "Y": cut[1].bytes()}),
+        Run(f"place identity {K1.hex()} 05 16", [f"place {place(ident(K1, bytes([5])), 16)} of 16"], {}),
     ]
     return files, runs
 
