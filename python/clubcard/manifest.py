@@ -9,7 +9,7 @@ import json
 from collections.abc import Mapping
 from dataclasses import dataclass
 
-from .places import WHOLE, Places, PlacesError
+from .places import WHOLE, Places, PlacesError, is_split
 from .times import from_iso, to_iso
 
 FORMAT = 1
@@ -95,6 +95,11 @@ class Manifest:
         if self.places is not None:
             return self.placed
         return (Chain(WHOLE, self.parts, self.store_length, self.store_sha256),)
+
+    def follows(self, old: "Manifest") -> bool:
+        """Whether its plan of places is that of an older manifest, or its chains began by a split of that one's."""
+        split = self.generation > old.generation and is_split(old.places, self.places)
+        return split or self.places == old.places
 
 
 def part_path(sha256: bytes) -> str:

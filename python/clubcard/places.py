@@ -1,6 +1,7 @@
 """The plan of places: by what a history is cut into many, each with a chain of its own and the certificates of a place.
 
-A plan goes with its chain for good: whoever asks at another place than the certificate's own gets an answer by chance.
+A plan goes with its chain until that is split: whoever asks at another place than the certificate's own gets an answer
+by chance.
 """
 
 import enum
@@ -88,6 +89,24 @@ class Places:
         # By issuer the serial says nothing.
         return self.by == "identity" or name[:4] == number_name(place(By.ISSUER, issuer, b"\0", self.count))
 
+    def origins(self, old: "Places | None") -> dict[str, str]:
+        """Of each place the one of a coarser plan, or the whole, that has all of its certificates: the old place is
+        split into these. A PlacesError where the old plan isn't such a one."""
+        if old is None:
+            return dict.fromkeys(self.names(), WHOLE)
+        if old.by != self.by or self.count % old.count:
+            raise PlacesError(f"{old} can't be split into {self}: write by = {old.by!r} and a multiple of {old.count}")
+        found: dict[str, str] = {}
+        for number, names in enumerate(self.groups()):
+            origin = number_name(number % old.count)
+            most = old.again.get(origin, 1)
+            if len(names) % most:
+                wanted = f"again: write a multiple of {most} for {names[0][:4]}"
+                raise PlacesError(f"{old} can't be split into {self}: {wanted}")
+            for at, name in enumerate(names):
+                found[name] = origin if most == 1 else f"{origin}.{number_name(at % most)}"
+        return found
+
     def members(self) -> dict[str, object]:
         """The plan in JSON."""
         return {"by": self.by, "count": self.count, "again": dict(sorted(self.again.items()))}
@@ -128,6 +147,14 @@ def number_name(number: int) -> str:
 def names_of(places: Places | None) -> list[str]:
     """The names of all places, or of the one."""
     return [WHOLE] if places is None else places.names()
+
+
+def is_split(old: Places | None, new: Places | None) -> bool:
+    """Whether a chain with the old plan can be split into places of the new one, which is another."""
+    try:
+        return old != new and new is not None and bool(new.origins(old))
+    except PlacesError:
+        return False
 
 
 def told(places: Places | None) -> str:

@@ -9,7 +9,7 @@ import pytest
 from clubcard.cutting import Sizes
 from clubcard.engine import Divided, Engine, Published
 from clubcard.manifest import from_json
-from clubcard.places import Places
+from clubcard.places import Places, told
 from clubcard.publish import chain, sums
 from clubcard.publish.epoch import Limits, NoEpoch
 from clubcard.publish.run import NO_EPOCH, run
@@ -147,7 +147,8 @@ def test_another_plan_is_refused(tmp_path: Path, first: Places | None, then: Pla
     config = replace(placed.world.config, places=then, logs=(), issuers=())
     outcome = run(config, at(8))
     assert outcome.status == NO_EPOCH and outcome.why is not None
-    assert "begin a new chain" in outcome.why and "was begun with" in outcome.why
+    remedy = "clubcard-publish split" if first is None else "begin a new chain"
+    assert remedy in outcome.why and f"has {told(first)}, and CONFIG has {told(then)}" in outcome.why
     assert site == shown(placed)
 
 

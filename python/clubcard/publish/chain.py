@@ -8,7 +8,7 @@ from dataclasses import asdict, dataclass
 from pathlib import Path
 from typing import Any
 
-from ..places import Places, told
+from ..places import Places, is_split, told
 from .alarms import Alarm
 from .config import Config
 from .rules import Range
@@ -188,13 +188,16 @@ def _parts(state: State, generation: int) -> dict[str, list[PartRow]]:
     return found
 
 
-def test_places(config: Config, state: State) -> None:
-    """Refuses another plan of places than the one with which the state's chain was begun."""
+def test_places(config: Config, state: State, splits: bool = False) -> None:
+    """Refuses another plan of places than that of the state's chain; where that is to be split, one of which it can't
+    become."""
     begun = state.db.execute("SELECT 1 FROM chain LIMIT 1").fetchone() is not None
-    held = state.places()
-    if begun and held != config.places:
-        was = f"the chain in {config.state} was begun with {told(held)}, and CONFIG has {told(config.places)}"
+    held, can_split = state.places(), is_split(state.places(), config.places)
+    if begun and held != config.places and not (splits and can_split):
+        was = f"the chain in {config.state} has {told(held)}, and CONFIG has {told(config.places)}"
         remedy = "write the same [places], or begin a new chain, with another `name`, `state` and `site`"
+        if can_split:
+            remedy = f"run `clubcard-publish split {config.path}`, or write the same [places]"
         raise StateError(f"{config.path}: {was}: {remedy}")
 
 

@@ -37,6 +37,11 @@ def of_rebase() -> str:
         WHERE k.revoked IS NOT NULL OR k.birth = :epoch"""
 
 
+def of_split() -> str:
+    """What is asked where each certificate has a new place: all identities."""
+    return f"{_ASKED} FROM identity k JOIN entry e ON e.id = k.entry {_JOINED}"
+
+
 def audited(engine: Engine, store: Path, jobs: Sequence[Path] | None) -> bool:
     """Tests by the program that a store says the truth of each entry of all of its jobs. False where it can't, since a
     rebase began the chain or the jobs are too many for one audit: then questions are asked (`ask`)."""

@@ -116,6 +116,16 @@ def run(file: Path, now: int | None) -> None:
 
 @main.command()
 @CONFIG
+def split(file: Path) -> None:
+    """Splits the chain into the places of CONFIG, and publishes them; nothing is fetched."""
+    config = _loaded(file)
+    with _told(config.state), progress() as bars:
+        outcome = running.split(config, progress=bars)
+    _end(outcome)
+
+
+@main.command()
+@CONFIG
 @NOW
 @click.option("--json", "as_json", is_flag=True, help="Prints JSON.")
 def status(file: Path, now: int | None, as_json: bool) -> None:

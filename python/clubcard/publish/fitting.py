@@ -110,9 +110,9 @@ class _Fit:
         """Why what is shown doesn't fit into the ledger of a place."""
         limit = self.making.limits.identities
         if place == WHOLE:
-            remedy = "publish some of the issuers by a CONFIG of their own, or begin a new chain with [places]"
+            remedy = "publish some of the issuers by a CONFIG of their own, or split the chain into [places]"
             return f"the ledger takes {limit} identities, and {room} more fit: {remedy}"
-        return f"place {place} takes {limit} identities, and {room} more fit: begin a new chain with more places"
+        return f"place {place} takes {limit} identities, and {room} more fit: split it into more places"
 
     @cached_property
     def fits_all(self) -> bool:

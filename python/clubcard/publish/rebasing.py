@@ -1,6 +1,6 @@
 """A chain begins anew: when, what holds it back, and without whom."""
 
-from collections.abc import Mapping, Sequence
+from collections.abc import Callable, Mapping, Sequence
 from dataclasses import replace
 from pathlib import Path
 
@@ -11,6 +11,12 @@ from .chain import EpochRow, Held, IssuerRow, Newest
 from .making import Making, NoEpoch
 from .recording import Files, Sizes
 from .spool import log_rows
+
+
+Begun = dict[str, tuple[Rebased, Files]]
+"""The chains that begin, by places: the program's line, and the files."""
+Run = Callable[[Making, Newest, list[int]], Begun]
+"""How the chains begin, without some issuers."""
 
 
 def cut_of(making: Making) -> int:
@@ -31,19 +37,25 @@ def behind(making: Making) -> EpochRow:
 def attempted(making: Making, newest: Newest, held: int, full: bool) -> EpochRow:
     """The newest epoch's row behind a rebase, or behind the try of one. `held`: for how many epochs it is held back,
     where it is so again; `full`: it waits for nobody, since the chain has no room for another part."""
-    words = {"generation": newest.generation, "cut": cut_of(making)}
-    holding = dict(making.db.execute(rules.holding(), words).fetchall())
-    gone = {issuer for issuer in holding if _is_gone(making, issuer)}
+    holding, gone = held_by(making, newest)
     without = rules.without(holding, gone, full or held >= making.config.patience)
     try:
         if without is not None:
-            return _rebased(making, newest, {issuer: holding[issuer] for issuer in sorted(without)})
+            some = {issuer: holding[issuer] for issuer in sorted(without)}
+            return rebased(making, newest, some, run, checking.of_rebase())
         for issuer in sorted(set(holding) - gone):
             text = f"{holding[issuer]} entries of {making.issuer_name(issuer)} wait, which isn't enrolled"
             making.alarms.add("held", f"{text}: they hold the rebase back in epoch {held} of {making.config.patience}")
     except NoEpoch as fault:
         making.alarms.add("held", f"the chain couldn't begin anew: {fault}")
     return _noted(making, held if holding else 0)
+
+
+def held_by(making: Making, newest: Newest) -> tuple[dict[int, int], set[int]]:
+    """How many entries of each issuer hold a rebase back, and for which of these issuers it waits no longer."""
+    words = {"generation": newest.generation, "cut": cut_of(making)}
+    holding = dict(making.db.execute(rules.holding(), words).fetchall())
+    return holding, {issuer for issuer in holding if _is_gone(making, issuer)}
 
 
 def _newest(making: Making) -> Newest:
@@ -80,17 +92,19 @@ def _row(making: Making, raised: Sequence[Alarm]) -> EpochRow:
     return replace(row, alarms=row.alarms + tuple(alarm for alarm in told if alarm not in row.alarms))
 
 
-def _rebased(making: Making, newest: Newest, without: Mapping[int, int]) -> EpochRow:
-    """Begins the chain anew, without some issuers, of whom so many entries wait."""
+def rebased(making: Making, newest: Newest, without: Mapping[int, int], begin: Run, asked: str) -> EpochRow:
+    """Begins the chain anew, without some issuers, of whom so many entries wait. `asked`: what the new stores are asked
+    before they count."""
     with making.step(), making.progress.task("beginning the chain anew"):
-        line, files, before = *_run(making, newest, list(without)), len(making.alarms.raised)
+        begun, before = begin(making, newest, list(without)), len(making.alarms.raised)
+        files = {name: each for name, (_, each) in begun.items()}
         with making.state.transaction():
             _begin(making, newest, files, list(without))
             _forget(making, newest.generation + 1, list(without))
             sizes = recording.sizes(making)
-            _compare(making, line, sizes)
+            _compare(making, [line for line, _ in begun.values()], sizes)
             stores = {name: making.state.path(each.store.name) for name, each in files.items()}
-            checking.ask(making.db, making.config.places, stores, checking.of_rebase(), newest.epoch)
+            checking.ask(making.db, making.config.places, stores, asked, newest.epoch)
             for issuer, count in without.items():
                 text = f"the chain began anew without {making.issuer_name(issuer)} of which {count} entries wait"
                 making.alarms.add("without", f"{text}: its certificates read not-enrolled until it is enrolled again")
@@ -99,14 +113,11 @@ def _rebased(making: Making, newest: Newest, without: Mapping[int, int]) -> Epoc
     return row
 
 
-def _run(making: Making, newest: Newest, without: list[int]) -> tuple[Rebased, dict[str, Files]]:
-    """The program's rebase of each place, and the stores that begin with its parts; the line is that of all places."""
+def run(making: Making, newest: Newest, without: list[int]) -> Begun:
+    """The program's rebase of each place, and the stores that begin with its parts."""
     keys = dict(making.db.execute("SELECT id, key FROM issuer"))
     named = [keys[issuer] for issuer in without]
-    made = {name: _run_place(making, name, held, named) for name, held in newest.places.items()}
-    lines = [line for line, _ in made.values()]
-    universe, revoked = sum(line.universe for line in lines), sum(line.revoked for line in lines)
-    return replace(lines[0], universe=universe, revoked=revoked), {name: files for name, (_, files) in made.items()}
+    return {name: _run_place(making, name, held, named) for name, held in newest.places.items()}
 
 
 def _run_place(making: Making, name: str, held: Held, named: list[bytes]) -> tuple[Rebased, Files]:
@@ -118,10 +129,15 @@ def _run_place(making: Making, name: str, held: Held, named: list[bytes]) -> tup
         old, part = ledger, state.new_file("chain", ".part", name)
         ledger = state.new_file("chain", ".ledger", name)
         line = making.engine.rebase(old, cut, part, ledger, config.workers, named[at : at + most])
-    store = state.new_file("chain", ".store", name)
+    return line, begun_with(making, name, part, ledger)
+
+
+def begun_with(making: Making, name: str, part: Path, ledger: Path) -> Files:
+    """What the chain of a place begins with, on the disk."""
+    store = making.state.new_file("chain", ".store", name)
     making.engine.start(part, store)
-    state.keep(ledger)
-    return line, Files(recording.kept(making, part), state.named(ledger), recording.kept(making, store), None)
+    making.state.keep(ledger)
+    return Files(recording.kept(making, part), making.state.named(ledger), recording.kept(making, store), None)
 
 
 def _begin(making: Making, newest: Newest, files: Mapping[str, Files], without: list[int]) -> None:
@@ -172,11 +188,12 @@ def _forget(making: Making, generation: int, without: list[int]) -> None:
     recording.forget(making, generation, cut)
 
 
-def _compare(making: Making, line: Rebased, sizes: Sizes) -> None:
+def _compare(making: Making, lines: Sequence[Rebased], sizes: Sizes) -> None:
     """An alarm where the program keeps other identities than the state: one is read otherwise by the two."""
     kept = sum(universe for universe, _ in sizes.values()), sum(revoked for _, revoked in sizes.values())
-    if kept != (line.universe, line.revoked):
-        text = f"identities {line.universe} revoked {line.revoked}, and the state {kept[0]} and {kept[1]}"
+    universe, revoked = sum(line.universe for line in lines), sum(line.revoked for line in lines)
+    if kept != (universe, revoked):
+        text = f"identities {universe} revoked {revoked}, and the state {kept[0]} and {kept[1]}"
         making.alarms.add("count", f"the program's rebase keeps {text}: report it")
 
 

@@ -60,9 +60,9 @@ def name_part(making: Making, newest: Newest | None, made: Made, files: Mapping[
 
 
 def begin_chain(making: Making, generation: int) -> None:
-    """Begins a chain whose files aren't named yet; the first one says for all by which places the history is cut."""
+    """Begins a chain whose files aren't named yet, and notes by which places the history is cut from here on."""
     making.db.execute("INSERT INTO chain VALUES (?, '', '', 0, x'', 0, NULL)", (generation,))
-    if generation == 1 and making.config.places is not None:
+    if making.config.places is not None:
         making.state.set_meta("places", making.config.places.text())
         making.state.set_meta("format", PLACED)
 

@@ -16,7 +16,7 @@ from ..lock import Locked, locked
 from ..minisign import MinisignError
 from ..progress import Progress, Silent
 from ..telling import FULL, refused_by_system
-from . import chain
+from . import chain, splitting
 from .alarms import Alarm, Alarms
 from .chain import EpochRow
 from .config import Config
@@ -43,16 +43,16 @@ class Outcome:
     why: str | None = None
     """With the statuses 3 and 4: one line that says why, and what to do."""
     row: EpochRow | None = None
-    """With the statuses 0 and 10 of `run`: the newest epoch."""
+    """With the statuses 0 and 10 of `run` and `split`: the newest epoch."""
 
 
 @contextlib.contextmanager
-def opened(config: Config) -> Iterator[State]:
+def opened(config: Config, splits: bool = False) -> Iterator[State]:
     """The state, without what a killed run left. Raises StateError where its chain has another plan of places than
-    CONFIG."""
+    CONFIG; where that is to be split, one of which it can't become."""
     state = State.open(config.state)
     try:
-        chain.test_places(config, state)
+        chain.test_places(config, state, splits)
         state.sweep()
         yield state
     finally:
@@ -93,6 +93,19 @@ def run(
     return _guarded(config, work)
 
 
+def split(config: Config, engine: Engine | None = None, progress: Progress | None = None) -> Outcome:
+    """Splits the chain that stands into those of CONFIG's places, of the same epoch, and publishes them. Where it has
+    been split it makes the site what the state says."""
+    shown, card = progress or Silent(), engine or Engine(config.program)
+
+    def work(state: State, alarms: Alarms) -> EpochRow:
+        row = splitting.split(config, state, card, alarms, shown)
+        publish_site(config, state)
+        return row
+
+    return _guarded(config, work, True)
+
+
 def fetch(config: Config, now: int, client: Client | None = None, progress: Progress | None = None) -> Outcome:
     """Fetches CRLs and entries, and makes no epoch. The status is 10 where an issuer would be left out now, or a log
     isn't followed."""
@@ -117,11 +130,11 @@ def _fetch(
     return enrolment
 
 
-def _guarded(config: Config, work: Callable[[State, Alarms], EpochRow | None]) -> Outcome:
+def _guarded(config: Config, work: Callable[[State, Alarms], EpochRow | None], splits: bool = False) -> Outcome:
     """What a step came to under the lock; what an operator can cause and mend is told with what to do."""
     alarms = Alarms()
     try:
-        with locked(config.state), opened(config) as state:
+        with locked(config.state), opened(config, splits) as state:
             row = work(state, alarms)
     except Locked as fault:
         return Outcome(LOCKED, (), str(fault))

@@ -29,12 +29,12 @@ class StoreFolder:
 
     def _old(self) -> Manifest | None:
         """The manifest of the stores that are there; None where there are none. Raises Refused where these were begun
-        with another plan."""
+        with another plan, of which the manifest's is no split."""
         try:
             old = manifest_in(self.folder)
         except FleetError:
             return None
-        if old.places != self.manifest.places:
+        if not self.manifest.follows(old):
             was = f"its stores were begun with {told(old.places)}, and the site has {told(self.manifest.places)}"
             remedy = "tell the publisher; to take them on purpose, remove this folder and run again"
             raise Refused(f"{self.folder}: {was}: {remedy}")

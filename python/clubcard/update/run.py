@@ -141,7 +141,8 @@ def _test_kind(config: Config, manifest: Manifest) -> None:
     elif config.capacity is not None:
         raise SetUp(f"{config.path}: the site has {told(manifest.places)}: write `store` in place of `device`")
     elif config.place.exists() and not config.place.is_dir():
-        raise SetUp(f"{config.place} is a file, and the site has {told(manifest.places)}: name another `store`")
+        was = f"{config.place} is a file, and the site has {told(manifest.places)}"
+        raise SetUp(f"{was}: move this file away and run again: then a folder of stores is there, which programs open")
 
 
 def _place(config: Config, engine: Engine) -> Place:

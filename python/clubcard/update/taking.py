@@ -118,13 +118,13 @@ def _test_owner(config: Config, state: State, known: Accepted) -> None:
 
 
 def _test_order(taken: Accepted, known: Accepted, file: Path) -> None:
-    """Refuses a manifest of another chain than the one before, which stands in a file; one that is older, or another
-    one of the same generation and epoch."""
+    """Refuses a manifest of another chain than the one before, which stands in a file; one with other places that
+    aren't a split of those; one that is older, or another one of the same generation and epoch."""
     chain, former = taken.manifest.name, known.manifest.name
     if chain != former:
         remedy = f"compare `site` in CONFIG; to move to that chain on purpose, remove {file} and run again"
         raise Refused(f"the site's manifest is of the chain {chain!r}, and this client follows {former!r}: {remedy}")
-    if taken.manifest.places != known.manifest.places:
+    if not taken.manifest.follows(known.manifest):
         new, old = told(taken.manifest.places), told(known.manifest.places)
         remedy = f"tell the publisher; to take them on purpose, remove {file} and the stores, and run again"
         raise Refused(f"the site's manifest has {new}, and this client's stores were begun with {old}: {remedy}")
