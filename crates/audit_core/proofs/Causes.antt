@@ -2,13 +2,9 @@
 use Rattle.std.specs.List.{slice_get}
 use Rattle.std.specs.Option.{option_or, option_map}
 use Rattle.std.specs.Prelude.{All, IsOk, nat_le, Result, Ok, Err, is_some}
-use Rattle.std.specs.BTreeSet.{insert_key}
-use Rattle.std.specs.declared.cmp.Ordering.{Ordering}
-use Rattle.std.specs.declared.cmp.Ordering.TheVariants.{Less, Equal, Greater}
-use Rattle.std.specs.Ordering.{match_ordering}
-use Rattle.std.proofs.Common.{◌≡◌, ◌≢◌, ℕ, zero, suc, ◌+◌, ◌<◌, ◌≤◌, List, [], ◌∷◌, map, length, take, Bool, true, false, cond, Option, Some, None, refl, sym, ap, ◌∙◌, subst, arith}
+use Rattle.std.proofs.Common.{◌≡◌, ◌≢◌, ℕ, zero, suc, ◌+◌, ◌<◌, ◌≤◌, List, [], ◌∷◌, ◌++◌, map, length, take, Bool, true, false, cond, Option, Some, None, refl, sym, ap, ◌∙◌, subst, arith}
 use Rattle.std.proofs.lemmas.Bool.{false≢true, lt-leb, le-ltb}
-use Rattle.std.proofs.lemmas.List.{length-map, length-take}
+use Rattle.std.proofs.lemmas.List.{length-append, length-map, length-take}
 use Rattle.std.proofs.lemmas.Option.{slice_get_within}
 use Rattle.std.proofs.lemmas.List.Sums.{count_by-le-length, sum_by_push, sum_by-take-le}
 use Rattle.ident_core.specs.Order.{identity_cmp}
@@ -19,7 +15,7 @@ use Rattle.crl_core.specs.Outcome.{CrlFields}
 use Rattle.job_core.specs.declared.bounds.TheConstants.Limits.{PUBLISHED}
 use Rattle.job_core.specs.JobFields.{CrlMeaning, JobFields}
 use Rattle.ledger_core.specs.LedgerFields.{LedgerFields, LedgerPartFields, newest}
-use Rattle.ident_core.specs.Sets.{all_inserted}
+use Rattle.ident_core.proofs.Sets.{set_few}
 use Rattle.universe_core.specs.Jobs.{JobFacts, facts_of}
 use Rattle.universe_core.specs.History.{Past, Release, class_of, if_accepted, shown, accepted_with, accepted_by, past_of}
 use Rattle.universe_core.specs.Ledgers.{past_in, ledger_of}
@@ -94,17 +90,6 @@ cause_is ledger job fault crls few ids h =
 
 -- ---- how many identities are accepted
 
-insert_few : {K : Type 0} (cmp : K → K → Ordering) (x : K) (ys : List K) → length (insert_key cmp ys x) ≤ suc (length ys)
-insert_few cmp x [] = omega arith
-insert_few cmp x (y ∷ ys) =
-    let n = insert_few cmp x ys in
-    elim (cmp x y) as (λ o. length (match_ordering o (x ∷ y ∷ ys) (y ∷ ys) (y ∷ insert_key cmp ys x)) ≤ suc (length (y ∷ ys))) [ Less ↦ omega arith | Equal ↦ omega arith | Greater ↦ omega arith ]
-
-set_few : {K : Type 0} (cmp : K → K → Ordering) (xs ys : List K) → length (all_inserted cmp xs ys) ≤ length xs + length ys
-unfolding all_inserted
-set_few cmp [] ys = omega arith
-set_few cmp (x ∷ xs) ys = let n = set_few cmp xs (insert_key cmp ys x) in let m = insert_few cmp x ys in omega arith
-
 shown_few : (past : Past) (job : JobFacts) → length (shown past job) ≤ length job.entries
 unfolding shown
 shown_few past job =
@@ -115,10 +100,11 @@ shown_few past job =
 pub accepted_few : (past : Past) (job : JobFacts) → length (accepted_with past job) ≤ length past.accepted + length job.entries
 unfolding accepted_with
 accepted_few past job =
-    let a = set_few identity_cmp (map (λ (e : Entry). e.id) (shown past job)) past.accepted in
+    let a = set_few identity_cmp (map (λ (e : Entry). e.id) (shown past job) ++ past.accepted) in
+    let d = length-append (map (λ (e : Entry). e.id) (shown past job)) past.accepted in
     let b = length-map (shown past job) (λ (e : Entry). e.id) in
     let c = shown_few past job in
-    omega (arith, a, b, c)
+    omega (arith, a, b, c, d)
 
 pub all_few : (jobs : List JobFields) (n : ℕ) → n ≤ length jobs → length (accepted_by [] (left_by_jobs (take n jobs))) ≤ entries_of (take n jobs)
 unfolding past_of accepted_by

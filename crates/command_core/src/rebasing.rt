@@ -6,7 +6,7 @@ ghost use Rattle.word_core.specs.declared.command.Command.{Command};
 ghost use Rattle.command_core.specs.Answering.{reply_fields};
 ghost use Rattle.command_core.specs.Rebasings.{base_line, base_done, cut_without};
 ghost use Rattle.command_core.specs.Replies.{done, IsReply};
-ghost use Rattle.publication_core.specs.Leavings.{cut_of};
+ghost use Rattle.publication_core.specs.LeftOut.{cut_of};
 ghost use Rattle.outside_core.specs.Reads.{WhichFailed};
 
 use crate::answer::Answer;
@@ -20,8 +20,8 @@ use line_core::{
 };
 use octets_core::NoMemory;
 use outside_core::Depot;
-use publication_core::{BaseCounts, BasePublication, Gate, Leaving, publish_base};
-use std::alloc::Global;
+use publication_core::{BaseCounts, BasePublication, Gate, Issuers, LeftOut, publish_base};
+use std::alloc::{AllocError, Global};
 use std::thread::Threads;
 use word_core::command::{Left, Rebase};
 
@@ -48,16 +48,16 @@ fn line_of(left: &Left, epoch: u64, counts: &BaseCounts) -> Line
 }
 
 /// What is left out, as it is asked of a ledger.
-fn leaving_of(left: &Left) -> Leaving<'_>
-    ensures { cut_of result ≡ cut_without left.now }
+fn left_out_of(alloc: Global, left: &Left) -> Result<LeftOut, AllocError>
+    ensures { IfOk result (λ l. cut_of l ≡ cut_without left.now) }
 {
     match left {
-        Left::Issuers(issuers) => Leaving::Issuers(issuers.as_slice()),
-        Left::OtherPlaces { by, count, place } => Leaving::OtherPlaces {
+        Left::Issuers(issuers) => Ok(LeftOut::Issuers(Issuers::new(alloc, issuers.as_slice())?)),
+        Left::OtherPlaces { by, count, place } => Ok(LeftOut::OtherPlaces {
             by: *by,
             count: *count,
             place: *place,
-        },
+        }),
     }
 }
 
@@ -101,13 +101,14 @@ pub fn answer_rebase<'a, R: Threads + Sync, G: Gate + Sync, D: Depot>(
         Ok(ledger) => ledger,
         Err(fault) => return refused(rebase.ledger.as_str(), fault),
     };
+    let left_out = left_out_of(alloc, &rebase.left)?;
     match publish_base(
         rt,
         alloc,
         gate,
         ledger,
         rebase.moment,
-        &leaving_of(&rebase.left),
+        &left_out,
         rebase.workers.get(),
     ) {
         Ok(publication) => rebased(rt, alloc, rebase, &publication),

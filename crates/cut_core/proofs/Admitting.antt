@@ -24,8 +24,8 @@ use Rattle.piece_core.specs.Cuts.{keeps_entry}
 use Rattle.cut_core.specs.Cutting.{cut_job, cut_in, IsCut}
 use Rattle.cut_core.specs.Courses.{Course, left, cut_course}
 use Rattle.cut_core.proofs.Steps.{accepted_cut}
-use Rattle.cut_core.proofs.Releases.{Ascend, past_cut}
-use Rattle.cut_core.proofs.Courses.{facts_cut, course_beside, left_ascends}
+use Rattle.cut_core.proofs.Releases.{past_cut}
+use Rattle.cut_core.proofs.Courses.{facts_cut, course_beside}
 
 module _ (cut : Cut) where
   fits_cut : (job : JobFields) → FitsPublishing job → FitsPublishing (cut_job cut job)
@@ -96,11 +96,11 @@ module _ (cut : Cut) where
     entries = omega (arith, few_kept (keeps_entry cut) job.entries, w.entries);
   }
 
-  pub admissible_beside : (rs qs : List Release) (j : JobIn) → AllZip (IsCut cut) rs qs → Ascend rs → IsAdmissible rs j
+  pub admissible_beside : (rs qs : List Release) (j : JobIn) → AllZip (IsCut cut) rs qs → IsAdmissible rs j
       → HaveBlocks j.format (groups_of qs (facts_in (cut_in cut j))) → IsAdmissible qs (cut_in cut j)
-  admissible_beside rs qs j z up a blocks =
+  admissible_beside rs qs j z a blocks =
       let known : accepted_with (past_of qs) (facts_in (cut_in cut j)) ≡ filter (is_kept cut) (accepted_with (past_of rs) (facts_in j)) =
-      ap (accepted_with (past_of qs)) (facts_cut cut j) ∙ accepted_cut cut (facts_in j) (past_of rs) (past_of qs) (past_cut cut rs qs z up) in
+      ap (accepted_with (past_of qs)) (facts_cut cut j) ∙ accepted_cut cut (facts_in j) (past_of rs) (past_of qs) (past_cut cut rs qs z) in
       let few : length (accepted_with (past_of qs) (facts_in (cut_in cut j))) ≤ PUBLISHED.identities =
       omega (
         arith,
@@ -113,4 +113,4 @@ module _ (cut : Cut) where
   pub admissible_whole : (c : Course) (j : JobIn) → IsAdmissible (left c) j
       → HaveBlocks j.format (groups_of (left (cut_course cut c)) (facts_in (cut_in cut j)))
       → IsAdmissible (left (cut_course cut c)) (cut_in cut j)
-  admissible_whole c j a blocks = admissible_beside (left c) (left (cut_course cut c)) j (course_beside cut c) (left_ascends cut c) a blocks
+  admissible_whole c j a blocks = admissible_beside (left c) (left (cut_course cut c)) j (course_beside cut c) a blocks

@@ -28,7 +28,7 @@ module _ (cut : Cut) where
   audited_beside jobs =
       subst (λ (fs : List JobFacts). AllZip (IsCut cut) (releases (λ r j. zero_key) [] (map facts_of jobs)) (releases (λ r j. zero_key) [] fs))
       (sym (all_facts jobs))
-      (releases_beside cut (λ r j. zero_key) (λ r j. zero_key) [] [] (map facts_of jobs) tt (λ r a. absurd a))
+      (releases_beside cut (λ r j. zero_key) (λ r j. zero_key) [] [] (map facts_of jobs) tt)
 
   pub cut_audit : (jobs : List JobFields) (parts : List PartFields) (x : Identity) (ss : List Sighting)
       → AllAgree parts (map (cut_job cut) jobs) → is_kept cut x ≡ true → 1 ≤ length ss

@@ -1,24 +1,20 @@
 -- The base of a history, beside that of a cut one.
 use Rattle.std.specs.List.{filter, flat_map, AllZip}
-use Rattle.std.specs.List.Sorted.{IsStrictlySortedBy}
 use Rattle.std.specs.Prelude.{ℤ}
-use Rattle.std.proofs.Common.{◌≡◌, ℕ, ⊎_elim, List, [], ◌∷◌, ◌++◌, true, not, Option, refl, sym, ap, ◌∙◌, subst}
+use Rattle.std.proofs.Common.{◌≡◌, ℕ, List, [], ◌∷◌, ◌++◌, true, not, Option, refl, sym, ap, ◌∙◌}
 use Rattle.std.proofs.lemmas.List.Elements.{filter-append}
-use Rattle.std.proofs.lemmas.List.Kept.{IsStrictlySortedBy-filter}
 use Rattle.ident_core.specs.declared.identity.Identity.{Identity}
 use Rattle.ident_core.specs.declared.range.Range.{Range}
-use Rattle.ident_core.specs.Among.{Among}
-use Rattle.ident_core.specs.Order.{identity_cmp}
 use Rattle.ident_core.specs.Sets.{key_set}
-use Rattle.ident_core.proofs.Elements.{Among-map}
+use Rattle.ident_core.proofs.Sets.{key_set_kept}
 use Rattle.universe_core.specs.Jobs.{Entry, is_stale}
 use Rattle.universe_core.specs.History.{Release, accepted_by, seen, is_listed}
 use Rattle.history_core.specs.Bases.{newest_ranges, newest_epoch, kept_by, base_with}
 use Rattle.history_core.specs.Bases.{release_cut, releases_cut, is_lasting_by, base_at}
 use Rattle.place_core.specs.Cuts.{Cut, is_kept}
 use Rattle.cut_core.specs.Cutting.{IsCut}
-use Rattle.cut_core.proofs.Filters.{filter_kept, key_set_kept}
-use Rattle.cut_core.proofs.Releases.{accepted_beside, seen_beside, listed_beside, until_beside, Ascend, known_ascend}
+use Rattle.cut_core.proofs.Filters.{filter_kept}
+use Rattle.cut_core.proofs.Releases.{accepted_beside, seen_beside, listed_beside, until_beside}
 
 module _ (cut : Cut) where
   epoch_after : (a b : ℕ) (rs qs : List Release) → b ≡ a → AllZip (IsCut cut) rs qs → newest_epoch b qs ≡ newest_epoch a rs
@@ -134,21 +130,3 @@ kept_beside cut (r ∷ rs) = (release_is_cut cut r, kept_beside cut rs)
 pub kept_base : (cut : Cut) (moment : ℕ) (rs : List Release) (trailer other : List ℕ)
     → IsCut cut (base_at moment rs trailer) (base_at moment (releases_cut cut rs) other)
 kept_base cut moment rs = base_cut cut moment rs (releases_cut cut rs) (kept_beside cut rs)
-
-less_ascend : (kept : Cut) (rs : List Release) → Ascend rs → Ascend (releases_cut kept rs)
-unfolding releases_cut
-less_ascend kept rs up r a =
-    let m : (q : Release) × Among rs q × (release_cut kept q ≡ r) = Among-map (release_cut kept) rs r a in
-    subst (λ (s : Release). IsStrictlySortedBy identity_cmp s.accepted) m.2
-    (IsStrictlySortedBy-filter identity_cmp (is_kept kept) m.0.accepted (up m.0 m.1))
-
-base_ascends_by : (moment : ℕ) (rs : List Release) (trailer : List ℕ) → Ascend rs → Ascend (base_at moment rs trailer ∷ [])
-unfolding base_with
-base_ascends_by moment rs trailer up r a =
-    ⊎_elim (λ (e : base_at moment rs trailer ≡ r). subst (λ (q : Release). IsStrictlySortedBy identity_cmp q.accepted) e
-    (IsStrictlySortedBy-filter identity_cmp (is_lasting_by moment rs) (accepted_by [] rs) (known_ascend rs up)))
-    (λ n. absurd n) a
-
-pub base_ascends : (moment : ℕ) (kept : Cut) (rs : List Release) (trailer : List ℕ) → Ascend rs
-    → Ascend (base_at moment (releases_cut kept rs) trailer ∷ [])
-base_ascends moment kept rs trailer up = base_ascends_by moment (releases_cut kept rs) trailer (less_ascend kept rs up)

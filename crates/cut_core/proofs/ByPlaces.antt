@@ -28,7 +28,7 @@ use Rattle.cut_core.specs.Courses.{Course, left}
 use Rattle.cut_core.specs.InPlaces.{job_at, course_at, over_places, counts_at, IssuersAddUp, AddUp}
 use Rattle.cut_core.proofs.Filters.{filter_all}
 use Rattle.cut_core.proofs.Adding.{over_each, tally, lengths}
-use Rattle.cut_core.proofs.Courses.{facts_cut, course_beside, left_ascends}
+use Rattle.cut_core.proofs.Courses.{facts_cut, course_beside}
 use Rattle.cut_core.proofs.Releases.{past_cut}
 use Rattle.cut_core.proofs.Steps.{IsCutPast, class_kept, class_none, enrolled_cut, universe_cut, revoked_cut}
 
@@ -82,7 +82,6 @@ module _ (by : By) (n : ℕ) (c : Course) (j : JobIn) (some : 1 ≤ n) where
 
   told : (p : ℕ) → IsCutPast (is_kept (at_place by n p)) whole (told_at p)
   told p = past_cut (at_place by n p) (left c) (left (course_at by n p c)) (course_beside (at_place by n p) c)
-      (left_ascends (at_place by n p) c)
 
   counts_are : (p : ℕ) → counts_at by n c j p ≡ counts (told_at p) (part p)
   counts_are p = ap (counts (told_at p)) (facts_cut (at_place by n p) j)

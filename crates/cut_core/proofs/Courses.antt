@@ -25,8 +25,8 @@ use Rattle.piece_core.specs.Cuts.{keeps_entry}
 use Rattle.cut_core.specs.Cutting.{cut_job, cut_in, cut_facts, IsCut}
 use Rattle.cut_core.specs.Courses.{Course, from_jobs, from_base, left_after, left, cut_course, course_of}
 use Rattle.cut_core.proofs.Filters.{filter_map_kept}
-use Rattle.cut_core.proofs.Releases.{Ascend, Ascend-push, releases_beside, releases_ascend, more_beside, sightings_beside, truth_beside}
-use Rattle.cut_core.proofs.Bases.{base_beside, base_ascends}
+use Rattle.cut_core.proofs.Releases.{releases_beside, more_beside, sightings_beside, truth_beside}
+use Rattle.cut_core.proofs.Bases.{base_beside}
 
 -- ---- formats
 
@@ -84,51 +84,44 @@ module _ (cut : Cut) where
 
   -- ---- courses
 
-  left_beside : (rs qs : List Release) (jobs : List JobIn) → AllZip (IsCut cut) rs qs → Ascend rs
+  left_beside : (rs qs : List Release) (jobs : List JobIn) → AllZip (IsCut cut) rs qs
       → AllZip (IsCut cut) (left_after rs jobs) (left_after qs (map (cut_in cut) jobs))
-  left_beside rs qs jobs z up =
+  left_beside rs qs jobs z =
       subst (λ (js : List JobFacts). AllZip (IsCut cut) (left_after rs jobs) (releases (λ r j. zero_key) qs js)) (sym (all_facts_cut jobs))
-      (releases_beside cut (λ r j. zero_key) (λ r j. zero_key) rs qs (map facts_in jobs) z up)
-
-  pub left_ascends : (c : Course) → Ascend (left c)
-  left_ascends (from_jobs jobs) = releases_ascend cut (λ r j. zero_key) [] (map facts_in jobs) (λ r a. absurd a)
-  left_ascends (from_base c moment kept jobs) =
-      releases_ascend cut (λ r j. zero_key) (base_at moment (releases_cut kept (left c)) zero_key ∷ []) (map facts_in jobs)
-      (base_ascends moment kept (left c) zero_key (left_ascends c))
+      (releases_beside cut (λ r j. zero_key) (λ r j. zero_key) rs qs (map facts_in jobs) z)
 
   pub course_beside : (c : Course) → AllZip (IsCut cut) (left c) (left (cut_course cut c))
-  course_beside (from_jobs jobs) = left_beside [] [] jobs tt (λ r a. absurd a)
+  course_beside (from_jobs jobs) = left_beside [] [] jobs tt
   course_beside (from_base c moment kept jobs) =
       left_beside (base_at moment (releases_cut kept (left c)) zero_key ∷ [])
       (base_at moment (releases_cut kept (left (cut_course cut c))) zero_key ∷ []) jobs
       (base_beside cut kept moment (left c) (left (cut_course cut c)) zero_key zero_key (course_beside c), tt)
-      (base_ascends moment kept (left c) zero_key (left_ascends c))
 
   -- ---- histories with parts
 
-  pub next_beside : (rs qs : List Release) (j : JobIn) (trailer other : List ℕ) → AllZip (IsCut cut) rs qs → Ascend rs
+  pub next_beside : (rs qs : List Release) (j : JobIn) (trailer other : List ℕ) → AllZip (IsCut cut) rs qs
       → AllZip (IsCut cut) (rs ++ released (past_of rs) (facts_in j) trailer ∷ []) (qs ++ released (past_of qs) (facts_in (cut_in cut j)) other ∷ [])
-  next_beside rs qs j trailer other z up =
+  next_beside rs qs j trailer other z =
       subst (λ (job : JobFacts). AllZip (IsCut cut) (rs ++ released (past_of rs) (facts_in j) trailer ∷ [])
       (qs ++ released (past_of qs) job other ∷ [])) (sym (facts_cut j))
-      (more_beside cut rs qs (facts_in j) trailer other z up)
+      (more_beside cut rs qs (facts_in j) trailer other z)
 
-  pub after_beside : (rs qs : List Release) (jobs : List JobIn) (ps : List Published) → AllZip (IsCut cut) rs qs → Ascend rs
+  pub after_beside : (rs qs : List Release) (jobs : List JobIn) (ps : List Published) → AllZip (IsCut cut) rs qs
       → map (λ p. p.job) ps ≡ map (cut_in cut) jobs → AllZip (IsCut cut) (left_after rs jobs) (releases_after qs ps)
   unfolding releases
-  after_beside rs qs [] [] z up e = z
-  after_beside rs qs [] (p ∷ ps) z up e = absurd cc
-  after_beside rs qs (j ∷ jobs) [] z up e = absurd cc
-  after_beside rs qs (j ∷ jobs) (p ∷ ps) z up e =
+  after_beside rs qs [] [] z e = z
+  after_beside rs qs [] (p ∷ ps) z e = absurd cc
+  after_beside rs qs (j ∷ jobs) [] z e = absurd cc
+  after_beside rs qs (j ∷ jobs) (p ∷ ps) z e =
       let same : p.job ≡ cut_in cut j = cc in
       let rest : map (λ p. p.job) ps ≡ map (cut_in cut) jobs = cc in
       let whole : List Release = rs ++ released (past_of rs) (facts_in j) zero_key ∷ [] in
       after_beside whole (qs ++ release_of qs p ∷ []) jobs ps
       (subst (λ (i : JobIn). AllZip (IsCut cut) whole (qs ++ released (past_of qs) (facts_in i) p.sealed.trailer ∷ [])) (sym same)
-      (next_beside rs qs j zero_key p.sealed.trailer z up)) (Ascend-push rs (facts_in j) zero_key up) rest
+      (next_beside rs qs j zero_key p.sealed.trailer z)) rest
 
   pub history_beside : (c : Course) (h : History) → course_of h ≡ cut_course cut c → AllZip (IsCut cut) (left c) (releases_of h)
-  history_beside (from_jobs jobs) (of_jobs ps) e = after_beside [] [] jobs ps tt (λ r a. absurd a) (same_jobs (map (λ p. p.job) ps) (map (cut_in cut) jobs) e)
+  history_beside (from_jobs jobs) (of_jobs ps) e = after_beside [] [] jobs ps tt (same_jobs (map (λ p. p.job) ps) (map (cut_in cut) jobs) e)
   history_beside (from_jobs jobs) (rebased h at w s ps) e = absurd cc
   history_beside (from_base c moment kept jobs) (of_jobs ps) e = absurd cc
   history_beside (from_base c moment kept jobs) (rebased h at w s ps) e =
@@ -139,8 +132,7 @@ module _ (cut : Cut) where
       (base_beside cut kept moment (left c) (releases_of h) zero_key s.trailer (history_beside c h same.0)) in
       let base : IsCut cut whole (base_at at (releases_cut w (releases_of h)) s.trailer) =
       subst (λ (m : ℕ). IsCut cut whole (base_at m (releases_cut w (releases_of h)) s.trailer)) (sym same.1) by_moment in
-      after_beside (whole ∷ []) (base_at at (releases_cut w (releases_of h)) s.trailer ∷ []) jobs ps (base, tt)
-      (base_ascends moment kept (left c) zero_key (left_ascends c)) same.3
+      after_beside (whole ∷ []) (base_at at (releases_cut w (releases_of h)) s.trailer ∷ []) jobs ps (base, tt) same.3
 
 -- ---- the truth
 

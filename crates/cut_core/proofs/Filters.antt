@@ -1,21 +1,8 @@
 -- What filters leave of what lists are made of.
 use Rattle.std.specs.List.{filter, filter_map, cons_option, list_any, position_or_len, AllZip}
-use Rattle.std.specs.List.Sorted.{IsStrictlySortedBy}
-use Rattle.std.specs.Cmp.{IsTotalOrder}
-use Rattle.std.specs.declared.cmp.Ordering.{Ordering}
-use Rattle.std.proofs.Common.{◌≡◌, ℕ, ◌+◌, inl, inr, ⊎_elim, List, [], ◌∷◌, Bool, true}
+use Rattle.std.proofs.Common.{◌≡◌, ◌+◌, List, [], ◌∷◌, Bool, true}
 use Rattle.std.proofs.Common.{false, cond, not, ◌&&◌, ◌||◌, Option, Some, None, refl, sym, ap, ◌∙◌}
-use Rattle.std.proofs.lemmas.Cmp.{nat_list_cmp_total}
-use Rattle.std.proofs.lemmas.Map.Lookups.{CmpEqualImpliesEq, exact_bytes}
 use Rattle.std.proofs.lemmas.List.Elements.{filter_agree}
-use Rattle.std.proofs.lemmas.List.Kept.{IsStrictlySortedBy-filter}
-use Rattle.ident_core.specs.declared.identity.Identity.{Identity}
-use Rattle.ident_core.specs.Among.{Among}
-use Rattle.ident_core.specs.Order.{octets_cmp, identity_cmp}
-use Rattle.ident_core.specs.Sets.{all_inserted, with_all, key_set}
-use Rattle.ident_core.proofs.Elements.{Among-filter, Among-in_filter}
-use Rattle.ident_core.proofs.Order.{sorted_unique, sorted_all_inserted, sorted_none}
-use Rattle.ident_core.proofs.Sets.{identity_total, identity_exact, Among-all_inserted, Among-in_all_inserted}
 
 -- ---- a filter after another
 
@@ -72,39 +59,6 @@ module _ {A B : Type 0} (f g : A → Option B) (keeps : A → Bool) (k : B → B
   pub filter_map_kept : (xs : List A) → filter_map g (filter keeps xs) ≡ filter k (filter_map f xs)
   filter_map_kept [] = refl
   filter_map_kept (a ∷ xs) = map_step a (filter keeps xs) (filter_map f xs) (keeps a) (f a) refl refl (filter_map_kept xs)
-
--- ---- a set
-
-module _ {K : Type 0} (cmp : K → K → Ordering) (total : IsTotalOrder cmp) (exact : CmpEqualImpliesEq cmp) (keeps : K
-    → Bool) (xs ys : List K) where
-  to_kept : (z : K) → Among (all_inserted cmp (filter keeps xs) (filter keeps ys)) z → Among (filter keeps (all_inserted cmp xs ys)) z
-  to_kept z a =
-      ⊎_elim (λ b. let f = Among-filter keeps xs z b in
-      Among-in_filter keeps (all_inserted cmp xs ys) z (Among-in_all_inserted cmp exact xs ys z (inl f.0)) f.1)
-      (λ b. let f = Among-filter keeps ys z b in
-      Among-in_filter keeps (all_inserted cmp xs ys) z (Among-in_all_inserted cmp exact xs ys z (inr f.0)) f.1)
-      (Among-all_inserted cmp exact (filter keeps xs) (filter keeps ys) z a)
-
-  from_kept : (z : K) → Among (filter keeps (all_inserted cmp xs ys)) z → Among (all_inserted cmp (filter keeps xs) (filter keeps ys)) z
-  from_kept z a =
-      let f = Among-filter keeps (all_inserted cmp xs ys) z a in
-      ⊎_elim (λ b. Among-in_all_inserted cmp exact (filter keeps xs) (filter keeps ys) z (inl (Among-in_filter keeps xs z b f.1)))
-      (λ b. Among-in_all_inserted cmp exact (filter keeps xs) (filter keeps ys) z (inr (Among-in_filter keeps ys z b f.1)))
-      (Among-all_inserted cmp exact xs ys z f.0)
-
-  pub inserted_kept : IsStrictlySortedBy cmp ys
-      → all_inserted cmp (filter keeps xs) (filter keeps ys) ≡ filter keeps (all_inserted cmp xs ys)
-  inserted_kept s =
-      sorted_unique cmp total (all_inserted cmp (filter keeps xs) (filter keeps ys)) (filter keeps (all_inserted cmp xs ys))
-      (sorted_all_inserted cmp total (filter keeps xs) (filter keeps ys) (IsStrictlySortedBy-filter cmp keeps ys s))
-      (IsStrictlySortedBy-filter cmp keeps (all_inserted cmp xs ys) (sorted_all_inserted cmp total xs ys s)) to_kept from_kept
-
-pub key_set_kept : (keeps : List ℕ → Bool) (ks : List (List ℕ)) → key_set (filter keeps ks) ≡ filter keeps (key_set ks)
-key_set_kept keeps ks = inserted_kept octets_cmp nat_list_cmp_total exact_bytes keeps ks [] (sorted_none octets_cmp nat_list_cmp_total)
-
-pub with_all_kept : (keeps : Identity → Bool) (xs ys : List Identity) → IsStrictlySortedBy identity_cmp ys
-    → with_all (filter keeps xs) (filter keeps ys) ≡ filter keeps (with_all xs ys)
-with_all_kept keeps xs ys s = inserted_kept identity_cmp identity_total identity_exact keeps xs ys s
 
 -- ---- lists side by side
 

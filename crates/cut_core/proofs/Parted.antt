@@ -17,13 +17,13 @@ use Rattle.universe_core.specs.Step.{head_after}
 use Rattle.publication_core.specs.Building.{HaveBlocks}
 use Rattle.publication_core.specs.Histories.{Published, groups_of, IsAdmissible, IsPartOf, release_of, AreAdmissible, History, of_jobs, rebased, with_job}
 use Rattle.publication_core.specs.Histories.{IsHistory, releases_of}
-use Rattle.publication_core.proofs.Histories.{history_sound, with_job_is}
+use Rattle.publication_core.proofs.Histories.{with_job_is}
 use Rattle.place_core.specs.Cuts.{Cut}
 use Rattle.cut_core.specs.Cutting.{cut_in, cut_facts, IsCut}
 use Rattle.cut_core.specs.Courses.{Course, from_jobs, from_base, cut_course, course_of, HaveBlocksBehind}
 use Rattle.cut_core.proofs.Admitting.{admissible_beside}
 use Rattle.cut_core.proofs.Courses.{facts_cut, next_beside}
-use Rattle.cut_core.proofs.Releases.{Ascend, Ascend-push, released_beside}
+use Rattle.cut_core.proofs.Releases.{released_beside}
 use Rattle.cut_core.proofs.Wholes.{cut_beside}
 
 -- a job whose groups have blocks has a part
@@ -55,35 +55,34 @@ module _ (cut : Cut) where
       ∙ ap (grouped b.accepted b.revoked) (x.issuers ∙ sym y.issuers)
       ∙ sym (groups_are b)
 
-  groups_same : (rs qs ls : List Release) (j : JobIn) → AllZip (IsCut cut) rs qs → AllZip (IsCut cut) rs ls → Ascend rs
+  groups_same : (rs qs ls : List Release) (j : JobIn) → AllZip (IsCut cut) rs qs → AllZip (IsCut cut) rs ls
       → groups_of ls (facts_in (cut_in cut j)) ≡ groups_of qs (facts_in (cut_in cut j))
-  groups_same rs qs ls j z y up =
+  groups_same rs qs ls j z y =
       ap (groups_of ls) (facts_cut cut j)
       ∙ groups_cut (released (past_of rs) (facts_in j) []) (released (past_of ls) (cut_facts cut (facts_in j)) [])
       (released (past_of qs) (cut_facts cut (facts_in j)) [])
-      (released_beside cut rs ls (facts_in j) [] [] y up) (released_beside cut rs qs (facts_in j) [] [] z up)
+      (released_beside cut rs ls (facts_in j) [] [] y) (released_beside cut rs qs (facts_in j) [] [] z)
       ∙ ap (groups_of qs) (sym (facts_cut cut j))
 
   -- ---- one job after the other
 
   parted_behind : (rs qs ls : List Release) (ps : List Published) → AllZip (IsCut cut) rs qs → AllZip (IsCut cut) rs ls
-      → Ascend rs → AreAdmissible rs ps → HaveBlocksBehind ls (map (cut_in cut) (map (λ p. p.job) ps))
+      → AreAdmissible rs ps → HaveBlocksBehind ls (map (cut_in cut) (map (λ p. p.job) ps))
       → (kept : List Published) × AreAdmissible qs kept × (map (λ p. p.job) kept ≡ map (cut_in cut) (map (λ p. p.job) ps))
-  parted_behind rs qs ls [] z y up h b = ([], tt, refl)
-  parted_behind rs qs ls (p ∷ ps) z y up h b =
+  parted_behind rs qs ls [] z y h b = ([], tt, refl)
+  parted_behind rs qs ls (p ∷ ps) z y h b =
       let j : JobIn = p.job in
-      let have : HaveBlocks j.format (groups_of qs (facts_in (cut_in cut j))) = subst (HaveBlocks j.format) (groups_same rs qs ls j z y up) b.0 in
+      let have : HaveBlocks j.format (groups_of qs (facts_in (cut_in cut j))) = subst (HaveBlocks j.format) (groups_same rs qs ls j z y) b.0 in
       let s = part_there qs (cut_in cut j) have in
       let made : Published = record { job = cut_in cut j; sealed = s.0 } in
       let on = parted_behind (rs ++ release_of rs p ∷ []) (qs ++ release_of qs made ∷ [])
       (ls ++ released (past_of ls) (facts_in (cut_in cut j)) zero_key ∷ []) ps
-      (next_beside cut rs qs j p.sealed.trailer s.0.trailer z up) (next_beside cut rs ls j p.sealed.trailer zero_key y up)
-      (Ascend-push rs (facts_in j) p.sealed.trailer up) h.2 b.1 in
-      (made ∷ on.0, (admissible_beside cut rs qs j z up h.0 have, s.1, on.1), ap (λ (js : List JobIn). cut_in cut j ∷ js) on.2)
+      (next_beside cut rs qs j p.sealed.trailer s.0.trailer z) (next_beside cut rs ls j p.sealed.trailer zero_key y) h.2 b.1 in
+      (made ∷ on.0, (admissible_beside cut rs qs j z h.0 have, s.1, on.1), ap (λ (js : List JobIn). cut_in cut j ∷ js) on.2)
 
   pub jobs_parted : (ps : List Published) → IsHistory (of_jobs ps) → HaveBlocksBehind [] (map (cut_in cut) (map (λ p. p.job) ps))
       → (h : History) × IsHistory h × (course_of h ≡ cut_course cut (course_of (of_jobs ps)))
-  jobs_parted ps is blocks = let on = parted_behind [] [] [] ps tt tt (λ r a. absurd a) is blocks in (of_jobs on.0, on.1, ap from_jobs on.2)
+  jobs_parted ps is blocks = let on = parted_behind [] [] [] ps tt tt is blocks in (of_jobs on.0, on.1, ap from_jobs on.2)
 
   -- ---- one job more, behind jobs or a base
 
@@ -112,9 +111,8 @@ module _ (cut : Cut) where
   next_parted whole kept j before is same a have =
       let rs : List Release = releases_of whole in
       let qs : List Release = releases_of kept in
-      let sound = history_sound whole before in
       let p = part_there qs (cut_in cut j) have in (
         p.0,
         with_job_is kept (record { job = cut_in cut j; sealed = p.0 }) is
-            (admissible_beside cut rs qs j (cut_beside whole cut kept same) (λ r b. (sound.formed r b).accepted_ascend) a have) p.1,
+            (admissible_beside cut rs qs j (cut_beside whole cut kept same) a have) p.1,
       )

@@ -1,19 +1,13 @@
 -- What releases say together, beside those of cut jobs.
 use Rattle.std.specs.List.{filter, AllZip}
-use Rattle.std.specs.List.Sorted.{IsStrictlySortedBy}
-use Rattle.std.proofs.Common.{◌≡◌, ℕ, ⊎_elim, List, [], ◌∷◌, ◌++◌, map, Bool, true}
-use Rattle.std.proofs.Common.{false, cond, not, ◌&&◌, Option, Some, refl, sym, ap, ◌∙◌, subst}
+use Rattle.std.proofs.Common.{◌≡◌, ℕ, List, [], ◌∷◌, ◌++◌, map, Bool, true}
+use Rattle.std.proofs.Common.{false, cond, not, ◌&&◌, Option, Some, refl, sym, ap, ◌∙◌}
 use Rattle.std.proofs.lemmas.List.Elements.{filter-append}
 use Rattle.ident_core.specs.declared.identity.Identity.{Identity}
 use Rattle.ident_core.specs.declared.range.Range.{Range}
 use Rattle.ident_core.specs.declared.range.Sighting.{Sighting}
-use Rattle.ident_core.specs.Order.{identity_cmp}
 use Rattle.ident_core.specs.Coverage.{covers}
-use Rattle.ident_core.specs.Among.{Among}
 use Rattle.ident_core.specs.Sets.{has, has_key}
-use Rattle.ident_core.proofs.Elements.{Among-push_cases}
-use Rattle.ident_core.proofs.Order.{sorted_none}
-use Rattle.ident_core.proofs.Sets.{identity_total}
 use Rattle.card_core.specs.declared.verdict.Verdict.TheVariants.{Good, Revoked}
 use Rattle.universe_core.specs.Jobs.{Entry, JobFacts, enrolled}
 use Rattle.universe_core.specs.Dates.{dates, greatest, until}
@@ -21,8 +15,7 @@ use Rattle.universe_core.specs.History.{Release, past_of, released, releases, cl
 use Rattle.universe_core.specs.History.{sightings, accepted_by, seen, birth, enrolls_and_lists, is_listed, already_revoked_by, comes_late_behind}
 use Rattle.universe_core.specs.Ledgers.{later, last_place, last}
 use Rattle.history_core.specs.Truth.{truth}
-use Rattle.history_core.proofs.Accepting.{accepted_ascend}
-use Rattle.history_core.proofs.Releases.{accepted_by-ascend, listed-cons}
+use Rattle.history_core.proofs.Releases.{listed-cons}
 use Rattle.history_core.proofs.Words.{zip_push}
 use Rattle.place_core.specs.Cuts.{Cut, is_kept}
 use Rattle.cut_core.specs.Cutting.{cut_facts, IsCut}
@@ -155,29 +148,11 @@ enrolled_other cut r q issuer c t = ap (λ (ks : List (List ℕ)). has_key ks is
 
 -- ---- what they tell the next job, and what it leaves
 
--- the identities that each has accepted ascend
-abbrev pub Ascend : List Release → Type 0
-Ascend rs = (r : Release) → Among rs r → IsStrictlySortedBy identity_cmp r.accepted
-
-pub known_ascend : (rs : List Release) → Ascend rs → IsStrictlySortedBy identity_cmp (accepted_by [] rs)
-known_ascend rs up = accepted_by-ascend [] rs (sorted_none identity_cmp identity_total) up
-
-past_ascends : (rs : List Release) → Ascend rs → IsStrictlySortedBy identity_cmp (past_of rs).accepted
-unfolding past_of
-past_ascends rs up = known_ascend rs up
-
-pub Ascend-push : (rs : List Release) (job : JobFacts) (trailer : List ℕ) → Ascend rs → Ascend (rs ++ released (past_of rs) job trailer ∷ [])
-Ascend-push rs job trailer up r a =
-    ⊎_elim (λ old. up r old) (λ (e : released (past_of rs) job trailer
-    ≡ r). subst (λ (q : Release). IsStrictlySortedBy identity_cmp q.accepted) e (accepted_ascend (past_of rs) job (past_ascends rs up)))
-    (Among-push_cases rs (released (past_of rs) job trailer) r a)
-
 module _ (cut : Cut) where
-  pub past_cut : (rs qs : List Release) → AllZip (IsCut cut) rs qs → Ascend rs → IsCutPast (is_kept cut) (past_of rs) (past_of qs)
+  pub past_cut : (rs qs : List Release) → AllZip (IsCut cut) rs qs → IsCutPast (is_kept cut) (past_of rs) (past_of qs)
   unfolding past_of
-  past_cut rs qs z up = record {
+  past_cut rs qs z = record {
     accepted = accepted_beside cut rs qs z;
-    ascend = known_ascend rs up;
     comes_late = λ x s k. lacked_beside cut x k rs qs z s;
     listed_before = λ x k. listed_beside cut x k rs qs z;
     already_revoked = λ x ss k.
@@ -185,32 +160,24 @@ module _ (cut : Cut) where
         ∙ settled_beside cut x k rs qs z (sightings x (seen rs) ++ ss);
   }
 
-  pub released_beside : (rs qs : List Release) (job : JobFacts) (trailer other : List ℕ) → AllZip (IsCut cut) rs qs → Ascend rs
+  pub released_beside : (rs qs : List Release) (job : JobFacts) (trailer other : List ℕ) → AllZip (IsCut cut) rs qs
       → IsCut cut (released (past_of rs) job trailer) (released (past_of qs) (cut_facts cut job) other)
-  released_beside rs qs job trailer other z up = released_cut cut job (past_of rs) (past_of qs) (past_cut rs qs z up) trailer other
+  released_beside rs qs job trailer other z = released_cut cut job (past_of rs) (past_of qs) (past_cut rs qs z) trailer other
 
-  pub more_beside : (rs qs : List Release) (job : JobFacts) (trailer other : List ℕ) → AllZip (IsCut cut) rs qs → Ascend rs
+  pub more_beside : (rs qs : List Release) (job : JobFacts) (trailer other : List ℕ) → AllZip (IsCut cut) rs qs
       → AllZip (IsCut cut) (rs ++ released (past_of rs) job trailer ∷ []) (qs ++ released (past_of qs) (cut_facts cut job) other ∷ [])
-  more_beside rs qs job trailer other z up =
+  more_beside rs qs job trailer other z =
       zip_push (IsCut cut) rs qs (released (past_of rs) job trailer) (released (past_of qs) (cut_facts cut job) other) z
-      (released_beside rs qs job trailer other z up)
+      (released_beside rs qs job trailer other z)
 
   pub releases_beside : (trailer other : List Release → JobFacts → List ℕ) (rs qs : List Release) (jobs : List JobFacts) → AllZip (IsCut cut) rs qs
-      → Ascend rs
       → AllZip (IsCut cut) (releases trailer rs jobs) (releases other qs (map (cut_facts cut) jobs))
   unfolding releases
-  releases_beside trailer other rs qs [] z up = z
-  releases_beside trailer other rs qs (job ∷ jobs) z up =
+  releases_beside trailer other rs qs [] z = z
+  releases_beside trailer other rs qs (job ∷ jobs) z =
       releases_beside trailer other (rs ++ released (past_of rs) job (trailer rs job) ∷ [])
       (qs ++ released (past_of qs) (cut_facts cut job) (other qs (cut_facts cut job)) ∷ []) jobs
-      (more_beside rs qs job (trailer rs job) (other qs (cut_facts cut job)) z up) (Ascend-push rs job (trailer rs job) up)
-
-  pub releases_ascend : (trailer : List Release → JobFacts → List ℕ) (rs : List Release) (jobs : List JobFacts) → Ascend rs
-      → Ascend (releases trailer rs jobs)
-  unfolding releases
-  releases_ascend trailer rs [] up = up
-  releases_ascend trailer rs (job ∷ jobs) up =
-      releases_ascend trailer (rs ++ released (past_of rs) job (trailer rs job) ∷ []) jobs (Ascend-push rs job (trailer rs job) up)
+      (more_beside rs qs job (trailer rs job) (other qs (cut_facts cut job)) z)
 
   -- an entry of a kept identity has its class
   pub class_beside : (rs qs : List Release) (job : JobFacts) (e : Entry) → AllZip (IsCut cut) rs qs → is_kept cut e.id ≡ true

@@ -1,17 +1,17 @@
 -- What a job accepts, lists and revokes, with some of its entries.
 use Rattle.std.specs.List.{filter, list_any, list_all}
 use Rattle.std.specs.Str.{bytes_eq}
-use Rattle.std.specs.List.Sorted.{IsStrictlySortedBy}
-use Rattle.std.proofs.Common.{◌≡◌, ℕ, List, map, Bool, true, false, cond, not, ◌&&◌, ◌||◌, Option, Some, None, refl, sym, ap, ◌∙◌}
+use Rattle.std.proofs.Common.{◌≡◌, ℕ, List, ◌++◌, map, Bool, true, false, cond, not, ◌&&◌, ◌||◌, Option, Some, None, refl, sym, ap, ◌∙◌}
 use Rattle.std.proofs.lemmas.Bool.{and_parts}
+use Rattle.std.proofs.lemmas.List.Elements.{filter-append}
 use Rattle.std.proofs.lemmas.Map.Views.{any-filter_same}
 use Rattle.ident_core.specs.declared.identity.Identity.{Identity}
 use Rattle.ident_core.specs.declared.range.Range.{Range}
 use Rattle.ident_core.specs.declared.range.Sighting.{Sighting}
 use Rattle.ident_core.specs.Order.{is_same, identity_cmp}
 use Rattle.ident_core.specs.Coverage.{covers}
-use Rattle.ident_core.specs.Sets.{has, has_key, with_all, key_set}
-use Rattle.ident_core.proofs.Sets.{same_is, bytes_same}
+use Rattle.ident_core.specs.Sets.{has, has_key, identity_set, key_set}
+use Rattle.ident_core.proofs.Sets.{same_is, bytes_same, identity_exact, identity_total, key_set_kept, set_kept}
 use Rattle.universe_core.specs.Jobs.{Entry, Crl, JobFacts, is_stale, crls_of, enrolled, lists}
 use Rattle.universe_core.specs.Dates.{dates}
 use Rattle.universe_core.specs.History.{Past, class_by, class_of, if_accepted, shown, sightings}
@@ -22,7 +22,7 @@ use Rattle.place_core.specs.Cuts.{Cut, is_kept}
 use Rattle.piece_core.specs.Cuts.{keeps_entry}
 use Rattle.cut_core.specs.Cutting.{cut_facts, IsCut}
 use Rattle.piece_core.proofs.Keeping.{map_filter}
-use Rattle.cut_core.proofs.Filters.{filter_kept, filter_within, filter_map_kept, key_set_kept, with_all_kept}
+use Rattle.cut_core.proofs.Filters.{filter_kept, filter_within, filter_map_kept}
 
 -- ---- what a filter keeps of an identity
 
@@ -64,7 +64,6 @@ taken cut x k = (and_parts (cut.takes x.issuer) (cut.chooses x) k).0
 -- what is told of kept identities is the same
 pub record IsCutPast (keeps : Identity → Bool) (whole cut : Past) : Type 0 where
   pub accepted : cut.accepted ≡ filter keeps whole.accepted
-  pub ascend : IsStrictlySortedBy identity_cmp whole.accepted
   pub comes_late : (x : Identity) (s : Sighting) → keeps x ≡ true → cut.comes_late x s ≡ whole.comes_late x s
   pub listed_before : (x : Identity) → keeps x ≡ true → cut.listed_before x ≡ whole.listed_before x
   pub already_revoked : (x : Identity) (ss : List Sighting) → keeps x ≡ true → cut.already_revoked x ss ≡ whole.already_revoked x ss
@@ -151,11 +150,12 @@ module _ (cut : Cut) (job : JobFacts) (p q : Past) (told : IsCutPast (is_kept cu
   pub accepted_cut : accepted_with q part ≡ filter (is_kept cut) (accepted_with p job)
   unfolding accepted_with
   accepted_cut =
-      ap (λ (es : List Entry). with_all (map (λ e. e.id) es) q.accepted) shown_cut
-      ∙ ap (λ (xs : List Identity). with_all (map (λ e. e.id) (filter (λ e. is_kept cut e.id) (shown p job))) xs) told.accepted
-      ∙ ap (λ (xs : List Identity). with_all xs (filter (is_kept cut) p.accepted))
+      ap (λ (es : List Entry). identity_set (map (λ e. e.id) es ++ q.accepted)) shown_cut
+      ∙ ap (λ (xs : List Identity). identity_set (map (λ e. e.id) (filter (λ e. is_kept cut e.id) (shown p job)) ++ xs)) told.accepted
+      ∙ ap (λ (xs : List Identity). identity_set (xs ++ filter (is_kept cut) p.accepted))
       (map_filter (λ (e : Entry). e.id) (is_kept cut) (shown p job))
-      ∙ with_all_kept (is_kept cut) (map (λ e. e.id) (shown p job)) p.accepted told.ascend
+      ∙ ap identity_set (sym (filter-append (is_kept cut) (map (λ e. e.id) (shown p job)) p.accepted))
+      ∙ set_kept identity_cmp identity_total identity_exact (is_kept cut) (map (λ e. e.id) (shown p job) ++ p.accepted)
 
   pub universe_cut : universe q part ≡ filter (is_kept cut) (universe p job)
   unfolding universe

@@ -23,8 +23,8 @@ use Rattle.cut_core.specs.Courses.{Course, from_jobs, from_base, left, cut_cours
 use Rattle.cut_core.proofs.Filters.{filter_all}
 use Rattle.cut_core.proofs.Releases.{sightings_beside, truth_beside}
 use Rattle.cut_core.proofs.Again.{release_again}
-use Rattle.cut_core.proofs.Bases.{release_is_cut, base_cut, base_ascends}
-use Rattle.cut_core.proofs.Courses.{after_beside, left_ascends, history_beside, beside_verdict, cut_verdict}
+use Rattle.cut_core.proofs.Bases.{release_is_cut, base_cut}
+use Rattle.cut_core.proofs.Courses.{after_beside, history_beside, beside_verdict, cut_verdict}
 
 entry_kept : (o : Option Entry) → keeps_entry everything o ≡ true
 entry_kept None = refl
@@ -118,8 +118,7 @@ module _ (cut : Cut) (c : Course) (moment : ℕ) (jobs : List JobIn) where
       subst (λ (v : Cut). IsCut cut whole (base_at moment (releases_cut v (releases_of h)) s.trailer)) (sym same.2) (base_split h s.trailer same.0) in
       let base : IsCut cut whole (base_at n (releases_cut w (releases_of h)) s.trailer) =
       subst (λ (m : ℕ). IsCut cut whole (base_at m (releases_cut w (releases_of h)) s.trailer)) (sym same.1) by_moment in
-      after_beside cut (whole ∷ []) (base_at n (releases_cut w (releases_of h)) s.trailer ∷ []) jobs ps (base, tt)
-      (base_ascends moment everything (left c) zero_key (left_ascends cut c)) same.3
+      after_beside cut (whole ∷ []) (base_at n (releases_cut w (releases_of h)) s.trailer ∷ []) jobs ps (base, tt) same.3
 
   -- the verdict of its parts is the truth of the whole, begun anew
   pub split_verdict : (h : History) (x : Identity) (ss : List Sighting) → IsHistory h → course_of h ≡ split → is_kept cut x ≡ true

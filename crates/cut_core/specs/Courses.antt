@@ -1,6 +1,6 @@
 -- What courses leave: with no parts, and with no bound on how much their jobs accept. A history that is cut into places
 -- may be a course and no more, since all of it would pass the limits.
-use Rattle.std.specs.Prelude.{ℕ, List, [], ◌∷◌, ◌++◌, map}
+use Rattle.std.specs.Prelude.{List, [], ◌∷◌, ◌++◌, map}
 use Rattle.ident_core.specs.HeadFields.{zero_key}
 use Rattle.universe_core.specs.Formats.{JobIn, facts_in}
 use Rattle.universe_core.specs.History.{Release, past_of, released, releases}

@@ -1,19 +1,15 @@
 -- What a job accepts, lists and revokes.
-use Rattle.std.specs.List.{list_all}
 use Rattle.std.specs.List.Sorted.{IsStrictlySortedBy}
-use Rattle.std.proofs.Common.{◌≡◌, ◌⊎◌, inl, inr, ⊎_elim, [], map, Bool, true, false, cond, not, ◌&&◌, ◌||◌, Option, Some, refl, sym, ap, ◌∙◌, subst}
+use Rattle.std.proofs.Common.{◌≡◌, ◌⊎◌, inl, inr, ⊎_elim, ◌++◌, map, Bool, true, false, cond, not, ◌&&◌, ◌||◌, Option, Some, refl, sym, ap, ◌∙◌, subst}
 use Rattle.std.proofs.lemmas.Bool.{and_parts, true≢false, false≢true}
-use Rattle.std.proofs.lemmas.List.Kept.{IsStrictlySortedBy-filter}
-use Rattle.std.proofs.lemmas.Cmp.{nat_list_cmp_total}
 use Rattle.ident_core.specs.declared.identity.Identity.{Identity}
-use Rattle.ident_core.specs.Order.{octets_cmp, identity_cmp}
+use Rattle.ident_core.specs.Order.{identity_cmp}
 use Rattle.ident_core.specs.Coverage.{covers}
 use Rattle.ident_core.specs.Among.{Among}
-use Rattle.ident_core.specs.Sets.{has, has_key, key_set}
+use Rattle.ident_core.specs.Sets.{has, has_key}
 use Rattle.ident_core.proofs.Elements.{Among-filter, Among-in_filter, Among-map, Among-in_map, Among-filter_map, Among-in_filter_map}
-use Rattle.ident_core.proofs.Sets.{Among-from_has, has-from_Among, Among-with_all, Among-in_with_all, identity_total}
-use Rattle.ident_core.proofs.Order.{sorted_all_inserted, sorted_none}
-use Rattle.universe_core.specs.Jobs.{Entry, JobFacts, enrolled, lists, is_stale, crls_of}
+use Rattle.ident_core.proofs.Sets.{Among-from_has, has-from_Among, Among-union, Among-in_union, identities_are}
+use Rattle.universe_core.specs.Jobs.{Entry, JobFacts, enrolled, lists}
 use Rattle.universe_core.specs.History.{Past, class_by, class_of, if_accepted, shown, sightings, accepted_with, universe, is_revoked, revoked}
 use Rattle.universe_core.specs.declared.class.Class.{Class}
 use Rattle.universe_core.specs.declared.class.Class.TheVariants.{Accepted, Unread, Uncovered, Unenrolled, Late}
@@ -62,19 +58,19 @@ shown_entry past job e h =
 pub accepted_old : (past : Past) (job : JobFacts) (x : Identity) → has past.accepted x ≡ true → has (accepted_with past job) x ≡ true
 unfolding accepted_with
 accepted_old past job x h =
-    has-from_Among (accepted_with past job) x (Among-in_with_all (map (λ e. e.id) (shown past job)) past.accepted x (inr (Among-from_has past.accepted x h)))
+    has-from_Among (accepted_with past job) x (Among-in_union (map (λ e. e.id) (shown past job)) past.accepted x (inr (Among-from_has past.accepted x h)))
 
 pub accepted_new : (past : Past) (job : JobFacts) (e : Entry) → Among (shown past job) e → has (accepted_with past job) e.id ≡ true
 unfolding accepted_with
 accepted_new past job e h =
-    has-from_Among (accepted_with past job) e.id (Among-in_with_all (map (λ d. d.id) (shown past job)) past.accepted e.id (inl (Among-in_map (λ (d : Entry). d.id) (shown past job) e h)))
+    has-from_Among (accepted_with past job) e.id (Among-in_union (map (λ d. d.id) (shown past job)) past.accepted e.id (inl (Among-in_map (λ (d : Entry). d.id) (shown past job) e h)))
 
 -- an accepted identity was accepted before, or has an entry that is shown
 pub accepted_cases : (past : Past) (job : JobFacts) (x : Identity) → has (accepted_with past job) x ≡ true → (has past.accepted x ≡ true) ⊎ ((e : Entry) × Among (shown past job) e × (e.id ≡ x))
 unfolding accepted_with
 accepted_cases past job x h =
     ⊎_elim (λ a. inr (Among-map (λ e. e.id) (shown past job) x a)) (λ a. inl (has-from_Among past.accepted x a))
-    (Among-with_all (map (λ e. e.id) (shown past job)) past.accepted x (Among-from_has (accepted_with past job) x h))
+    (Among-union (map (λ e. e.id) (shown past job)) past.accepted x (Among-from_has (accepted_with past job) x h))
 
 pub universe_is : (past : Past) (job : JobFacts) (x : Identity) → has (universe past job) x ≡ true → (has (accepted_with past job) x ≡ true) × (has_key (enrolled job) x.issuer ≡ true)
 unfolding universe
@@ -113,12 +109,6 @@ unfolding is_revoked
 not_revoked past job x u l n =
     settled_bool (past.listed_before x || lists job x) (past.already_revoked x (sightings x (shown past job))) (has (revoked past job) x) (revoked_has past job x u) l n
 
-pub enrolled_ascend : (job : JobFacts) → IsStrictlySortedBy octets_cmp (enrolled job)
-unfolding enrolled
-enrolled_ascend job =
-    IsStrictlySortedBy-filter octets_cmp (λ issuer. list_all (λ c. not (is_stale job.moment c.next_update)) (crls_of issuer job)) (key_set (map (λ c. c.issuer) job.crls))
-    (sorted_all_inserted octets_cmp nat_list_cmp_total (map (λ c. c.issuer) job.crls) [] (sorted_none octets_cmp nat_list_cmp_total))
-
-pub accepted_ascend : (past : Past) (job : JobFacts) → IsStrictlySortedBy identity_cmp past.accepted → IsStrictlySortedBy identity_cmp (accepted_with past job)
+pub accepted_ascend : (past : Past) (job : JobFacts) → IsStrictlySortedBy identity_cmp (accepted_with past job)
 unfolding accepted_with
-accepted_ascend past job h = sorted_all_inserted identity_cmp identity_total (map (λ e. e.id) (shown past job)) past.accepted h
+accepted_ascend past job = (identities_are (map (λ e. e.id) (shown past job) ++ past.accepted)).ascends

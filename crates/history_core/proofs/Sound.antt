@@ -1,25 +1,22 @@
 -- An admitted job keeps the facts.
-use Rattle.std.specs.List.Sorted.{IsStrictlySortedBy}
 use Rattle.std.proofs.Common.{◌≡◌, ℕ, ◌⊎◌, inl, inr, ⊎_elim, List, [], ◌∷◌, ◌++◌, true, false, ◌||◌, refl, sym, ap, ◌∙◌, subst}
 use Rattle.std.proofs.lemmas.Bool.{or_cases, or_left, or_right, and_from, and_parts, cases_Bool, true≢false, false≢true}
 use Rattle.ident_core.specs.declared.identity.Identity.{Identity}
 use Rattle.ident_core.specs.declared.range.Sighting.{Sighting}
-use Rattle.ident_core.specs.Order.{identity_cmp}
 use Rattle.ident_core.specs.Coverage.{covers}
 use Rattle.ident_core.specs.Among.{Among}
 use Rattle.ident_core.specs.Sets.{has, has_key}
 use Rattle.ident_core.proofs.Elements.{Among-left, Among-right, Among-push, Among-push_cases, Among-cases}
-use Rattle.ident_core.proofs.Sets.{identity_total}
-use Rattle.ident_core.proofs.Order.{sorted_none}
 use Rattle.universe_core.specs.Jobs.{Entry, JobFacts, enrolled, lists}
 use Rattle.universe_core.specs.History.{Release, past_of, released, sightings, accepted_by, seen, birth, is_listed, already_revoked_by, shown, accepted_with, universe, enrolls_and_lists, revoked}
+use Rattle.universe_core.proofs.Issuers.{enrolled_ascend}
 use Rattle.history_core.specs.Facts.{Widens, IsFormed, IsSound, KeepsCoverage}
 use Rattle.history_core.proofs.Sightings.{Among-sightings}
 use Rattle.history_core.proofs.Coverage.{covers_next}
 use Rattle.history_core.proofs.Accepting.{shown_is, accepted_cases, accepted_old, accepted_new, universe_is, universe_has, revoked_is}
-use Rattle.history_core.proofs.Accepting.{revoked_listed, not_revoked, enrolled_ascend, accepted_ascend}
+use Rattle.history_core.proofs.Accepting.{revoked_listed, not_revoked, accepted_ascend}
 use Rattle.history_core.proofs.Releases.{seen-push, sightings-append, accepted_by-push, accepted_by-has, Widens-push, is_listed_at, is_listed_by}
-use Rattle.history_core.proofs.Releases.{IsSettled, settled_parts, settled_from, not_lacked, accepted_by-ascend}
+use Rattle.history_core.proofs.Releases.{IsSettled, settled_parts, settled_from, not_lacked}
 
 pub nothing_sound : IsSound []
 unfolding is_listed birth seen accepted_by
@@ -56,10 +53,6 @@ past_settled : (rs : List Release) (x : Identity) (now : List Sighting) → (pas
 unfolding past_of
 past_settled rs x now = refl
 
-past_ascends : (rs : List Release) → IsSound rs → IsStrictlySortedBy identity_cmp (past_of rs).accepted
-unfolding past_of
-past_ascends rs sound = accepted_by-ascend [] rs (sorted_none identity_cmp identity_total) (λ r a. (sound.formed r a).accepted_ascend)
-
 module _ (rs : List Release) (job : JobFacts) (trailer : List ℕ) (sound : IsSound rs) (follows : KeepsCoverage rs job) where
   abbrev after : List Release
   after = rs ++ released (past_of rs) job trailer ∷ []
@@ -89,7 +82,7 @@ module _ (rs : List Release) (job : JobFacts) (trailer : List ℕ) (sound : IsSo
   formed_now : IsFormed (released (past_of rs) job trailer)
   formed_now = record {
     issuers_ascend = enrolled_ascend job;
-    accepted_ascend = accepted_ascend (past_of rs) job (past_ascends rs sound);
+    accepted_ascend = accepted_ascend (past_of rs) job;
     enrolled = λ x h. (universe_is (past_of rs) job x (revoked_is (past_of rs) job x h).0).1;
     accepted = λ x h. (universe_is (past_of rs) job x (revoked_is (past_of rs) job x h).0).0;
     shown = λ e h. accepted_new (past_of rs) job e h;

@@ -3,14 +3,10 @@ use Rattle.std.specs.Prelude.{Contains}
 use Rattle.std.specs.declared.cmp.Ordering.{Ordering}
 use Rattle.std.specs.declared.cmp.Ordering.TheVariants.{Less, Equal, Greater}
 use Rattle.std.specs.Ordering.{is_eq}
-use Rattle.std.specs.Cmp.{IsTotalOrder}
 use Rattle.std.specs.List.{AllByRecursion}
 use Rattle.std.specs.List.Sorted.{IsStrictlySortedBy}
 use Rattle.std.proofs.Common.{◌≡◌, ℕ, ◌<◌, inl, inr, List, [], ◌∷◌, length, get_or, zero, suc, true, refl, arith}
 use Rattle.ident_core.specs.Among.{Among}
-use Rattle.ident_core.specs.Sets.{all_inserted}
-use Rattle.ident_core.proofs.Sets.{Among-all_inserted, Among-in_all_inserted}
-use Rattle.ident_core.proofs.Order.{sorted_unique, sorted_all_inserted, sorted_none}
 
 pub equal_from_is_eq : (o : Ordering) → is_eq o ≡ true → o ≡ Equal
 equal_from_is_eq Less e = cc
@@ -37,11 +33,3 @@ all_from P (y ∷ xs) f = (f y (inl refl), all_from P xs (λ x a. f x (inr a)))
 pub sorted_cons : {K : Type 0} (cmp : K → K → Ordering) (y : K) (ys : List K) → ((z : K) → Among ys z → cmp y z ≡ Less) → IsStrictlySortedBy cmp ys → IsStrictlySortedBy cmp (y ∷ ys)
 unfolding IsStrictlySortedBy
 sorted_cons cmp y ys f s = (all_from (λ z. cmp y z ≡ Less) ys f, s)
-
-module _ {K : Type 0} (cmp : K → K → Ordering) (total : IsTotalOrder cmp) (exact : (x y : K) → cmp x y ≡ Equal → x ≡ y) where
-  -- an ascending list with the elements of another is its set
-  pub set_is : (xs ys : List K) → IsStrictlySortedBy cmp ys → ((x : K) → Among ys x → Among xs x) → ((x : K) → Among xs x → Among ys x) → ys ≡ all_inserted cmp xs []
-  set_is xs ys s f g =
-      sorted_unique cmp total ys (all_inserted cmp xs []) s (sorted_all_inserted cmp total xs [] (sorted_none cmp total))
-      (λ z a. Among-in_all_inserted cmp exact xs [] z (inl (f z a)))
-      (λ z a. elim (Among-all_inserted cmp exact xs [] z a) [ inl b ↦ g z b | inr n ↦ absurd n ])

@@ -11,7 +11,6 @@ use Rattle.std.proofs.lemmas.Bool.{true≢false}
 use Rattle.std.proofs.lemmas.Cmp.{nat_list_cmp_total, tied_itself}
 use Rattle.ident_core.specs.Among.{Among}
 use Rattle.ident_core.specs.Order.{octets_cmp}
-use Rattle.ident_core.specs.Sets.{all_inserted}
 
 pub all_weaker : {K : Type 0} (P Q : K → Type 0) → ((x : K) → P x → Q x) → (xs : List K) → AllByRecursion P xs → AllByRecursion Q xs
 all_weaker P Q f [] h = tt
@@ -59,11 +58,6 @@ module _ {K : Type 0} (cmp : K → K → Ordering) (total : IsTotalOrder cmp) wh
   unfolding IsStrictlySortedBy
   sorted_insert x [] h = (tt, tt)
   sorted_insert x (y ∷ ys) h = sorted_placed (cmp x y) x y ys refl h (sorted_insert x ys (sorted_tail cmp y ys h))
-
-  pub sorted_all_inserted : (xs ys : List K) → IsStrictlySortedBy cmp ys → IsStrictlySortedBy cmp (all_inserted cmp xs ys)
-  unfolding all_inserted
-  sorted_all_inserted [] ys h = h
-  sorted_all_inserted (x ∷ xs) ys h = sorted_all_inserted xs (insert_key cmp ys x) (sorted_insert x ys h)
 
   pub not_below_itself : (x y : K) → cmp x y ≡ Less → x ≡ y → ⊥
   not_below_itself x y h e = let l : cmp x x ≡ Less = ap (cmp x) e ∙ h in let t : cmp x x ≡ Equal = tied_itself total x in absurd cc

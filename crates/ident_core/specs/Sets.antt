@@ -1,5 +1,5 @@
 -- Sets of keys and of identities: ascending lists without repeats.
-use Rattle.std.specs.Prelude.{ℕ, List, [], Bool, fold}
+use Rattle.std.specs.Prelude.{ℕ, List, [], ◌∷◌, Bool}
 use Rattle.std.specs.List.{list_any}
 use Rattle.std.specs.Str.{bytes_eq}
 use Rattle.std.specs.declared.cmp.Ordering.{Ordering}
@@ -15,14 +15,15 @@ has xs x = list_any (is_same x) xs
 abbrev pub has_key : List (List ℕ) → List ℕ → Bool
 has_key keys k = list_any (bytes_eq k) keys
 
--- the set ys with the elements xs
-unfoldable pub all_inserted : {K : Type 0} → (K → K → Ordering) → List K → List K → List K
-all_inserted cmp xs ys = fold (insert_key cmp) ys xs
+-- The set of a list. `sets_are_canonical` says that it is the one list s with IsSetOf cmp xs s.
+unfoldable pub set_with : {K : Type 0} → (K → K → Ordering) → List K → List K
+set_with cmp [] = []
+set_with cmp (x ∷ xs) = insert_key cmp (set_with cmp xs) x
 
--- the set ys of identities with the identities xs
-abbrev pub with_all : List Identity → List Identity → List Identity
-with_all xs ys = all_inserted identity_cmp xs ys
+-- the set of these identities
+abbrev pub identity_set : List Identity → List Identity
+identity_set xs = set_with identity_cmp xs
 
 -- the set of these keys
 abbrev pub key_set : List (List ℕ) → List (List ℕ)
-key_set keys = all_inserted octets_cmp keys []
+key_set keys = set_with octets_cmp keys

@@ -7,31 +7,23 @@ use Rattle.std.proofs.lemmas.List.Elements.{All-filter, filter-append}
 use Rattle.std.proofs.lemmas.List.Filters.{length-filter_both}
 use Rattle.std.proofs.lemmas.List.Kept.{IsStrictlySortedBy-filter}
 use Rattle.std.proofs.lemmas.List.Sums.{length-filter, count_by-le-length}
-use Rattle.std.proofs.lemmas.Cmp.{nat_list_cmp_total}
 use Rattle.octets_core.specs.Linked.{Linked}
 use Rattle.ident_core.specs.declared.kind.Kind.TheVariants as kinds
 use Rattle.ident_core.specs.HeadFields.{zero_key}
 use Rattle.ident_core.specs.Order.{octets_cmp}
 use Rattle.ledger_core.specs.LedgerFields.{LedgerPartFields, LedgerFields, Continues, IsPartAfter, IsLedger, IsItemOf, newest}
 use Rattle.ledger_core.specs.declared.fields.LedgerItem.{LedgerItem}
-use Rattle.ident_core.specs.Sets.{has_key, key_set}
-use Rattle.ident_core.proofs.Elements.{Among-filter, Among-in_filter, bool_same}
-use Rattle.ident_core.proofs.Order.{sorted_unique}
-use Rattle.ident_core.proofs.Sets.{Among-from_has_key, has_key-from_Among, Among-key_set, Among-from_key_set, key_set_ascends}
+use Rattle.ident_core.specs.Sets.{key_set}
+use Rattle.ident_core.proofs.Sets.{has_key_set, key_set_kept}
 use Rattle.place_core.specs.Cuts.{Cut, without, everything}
 use Rattle.universe_core.specs.Rebases.{is_kept_item, part_cut, ledger_cut, count_left, kept, issuers_in, epoch_by, ranges_by, rebased_head}
 use Rattle.publication_core.proofs.Kept.{sorted_kept}
 
 -- ---- the set of the issuers
 
-has_key-key_set : (ks : List (List ℕ)) (k : List ℕ) → has_key (key_set ks) k ≡ has_key ks k
-has_key-key_set ks k =
-    bool_same (has_key (key_set ks) k) (has_key ks k) (λ h. has_key-from_Among ks k (Among-from_key_set ks k (Among-from_has_key (key_set ks) k h)))
-    (λ h. has_key-from_Among (key_set ks) k (Among-key_set ks k (Among-from_has_key ks k h)))
-
 -- the set of the issuers stands for them
 pub without_set : (ks : List (List ℕ)) → without (key_set ks) ≡ without ks
-without_set ks = λ i. record { takes = λ k. not (has_key-key_set ks k i); chooses = λ x. true; unread = true }
+without_set ks = λ i. record { takes = λ k. not (has_key_set ks k i); chooses = λ x. true; unread = true }
 
 -- ---- all of it
 
@@ -43,9 +35,9 @@ parts_by_everything : (ps : List LedgerPartFields) → map (part_cut everything)
 parts_by_everything [] = refl
 parts_by_everything (p ∷ ps) = λ i. record p { issuers = filter-all p.issuers i } ∷ parts_by_everything ps i
 
-pub cut_by_everything : (l : LedgerFields) → ledger_cut everything l ≡ l
+pub cut_of_everything : (l : LedgerFields) → ledger_cut everything l ≡ l
 unfolding ledger_cut
-cut_by_everything l = λ i. record { parts = parts_by_everything l.parts i; items = filter-all l.items i }
+cut_of_everything l = λ i. record { parts = parts_by_everything l.parts i; items = filter-all l.items i }
 
 -- ---- its parts
 
@@ -64,17 +56,10 @@ filtered_each : (cut : Cut) (ps : List LedgerPartFields)
 filtered_each cut [] = refl
 filtered_each cut (p ∷ ps) = ap (λ ks. filter cut.takes p.issuers ++ ks) (filtered_each cut ps) ∙ sym (filter-append cut.takes p.issuers (flat_map (λ (q : LedgerPartFields). q.issuers) ps))
 
--- the set of what passes a test is what passes of the set
-key_set-filter : (p : List ℕ → Bool) (ks : List (List ℕ)) → key_set (filter p ks) ≡ filter p (key_set ks)
-key_set-filter p ks =
-    sorted_unique octets_cmp nat_list_cmp_total (key_set (filter p ks)) (filter p (key_set ks)) (key_set_ascends (filter p ks)) (IsStrictlySortedBy-filter octets_cmp p (key_set ks) (key_set_ascends ks))
-    (λ z a. let f = Among-filter p ks z (Among-from_key_set (filter p ks) z a) in Among-in_filter p (key_set ks) z (Among-key_set ks z f.0) f.1)
-    (λ z a. let f = Among-filter p (key_set ks) z a in Among-key_set (filter p ks) z (Among-in_filter p ks z (Among-from_key_set ks z f.0) f.1))
-
 -- The issuers of the parts that are taken.
 pub taken_issuers : (cut : Cut) (l : LedgerFields) → issuers_in (ledger_cut cut l).parts ≡ filter cut.takes (issuers_in l.parts)
 taken_issuers cut l =
-    sym (issuers_cut cut l l.parts refl) ∙ ap key_set (filtered_each cut l.parts) ∙ key_set-filter cut.takes (flat_map (λ (p : LedgerPartFields). p.issuers) l.parts)
+    sym (issuers_cut cut l l.parts refl) ∙ ap key_set (filtered_each cut l.parts) ∙ key_set_kept cut.takes (flat_map (λ (p : LedgerPartFields). p.issuers) l.parts)
 
 newest_cut : (cut : Cut) (p : LedgerPartFields) (ps : List LedgerPartFields)
     → (epoch_by (newest (part_cut cut p ∷ map (part_cut cut) ps)) ≡ epoch_by (newest (p ∷ ps))) × (ranges_by (newest (part_cut cut p ∷ map (part_cut cut) ps)) ≡ ranges_by (newest (p ∷ ps)))

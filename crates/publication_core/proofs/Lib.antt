@@ -16,7 +16,7 @@ pub mod Chains
 pub mod Bases
 pub mod BaseOutcomes
 pub mod BasePublishing
-pub mod LeftOut
+pub mod LeavingOut
 pub mod Kept
 pub mod Cuts
 pub mod Parts

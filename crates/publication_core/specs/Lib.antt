@@ -7,4 +7,4 @@ pub mod Truth
 pub mod Rebasing
 pub mod BaseFaults
 pub mod Rehearsing
-pub mod Leavings
+pub mod LeftOut

@@ -2,12 +2,12 @@
 
 ghost use Rattle.std.specs.Prelude.{◌≡◌, ◌≢◌, ◌≤◌, Err, length, filter, is_some};
 ghost use Rattle.ident_core.specs.declared.bounds.TheConstants.{MAX_WORKERS};
-ghost use Rattle.publication_core.specs.Leavings.{cut_of};
+ghost use Rattle.publication_core.specs.LeftOut.{cut_of};
 ghost use Rattle.publication_core.specs.Rebasing.{PublishesBase};
 
 use crate::base::{BaseCounts, BasePublication};
 use crate::base_fault::BaseFault;
-use crate::leaving::Leaving;
+use crate::left_out::LeftOut;
 use crate::publish::built;
 use crate::rebased::Rebased;
 use crate::rebasing::rebase;
@@ -33,14 +33,14 @@ pub fn publish_base<R: Threads + Sync, G: Gate + Sync>(
     gate: &G,
     ledger: Ledger,
     moment: u64,
-    leaving: &Leaving<'_>,
+    left_out: &LeftOut,
     workers: u32,
 ) -> Result<BasePublication, BaseFault>
     requires some_workers { 1 ≤ workers }
     requires few_workers { workers ≤ MAX_WORKERS }
-    ensures { result ≢ Err BaseFault.NoMemory → PublishesBase ledger moment (cut_of leaving.now) result }
+    ensures { result ≢ Err BaseFault.NoMemory → PublishesBase ledger moment (cut_of left_out.now) result }
 {
-    let rebased = rebase(alloc, &ledger, moment, leaving)?;
+    let rebased = rebase(alloc, &ledger, moment, left_out)?;
     let Rebased {
         head,
         groups,

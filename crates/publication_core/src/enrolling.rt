@@ -1,11 +1,9 @@
 ghost use Rattle.std.specs.Prelude.{◌≡◌, ◌++◌, IfOk, OnOk, map, filter, flat_map};
-ghost use Rattle.std.specs.List.Sorted.{IsStrictlySortedBy};
-ghost use Rattle.ident_core.specs.Order.{octets_cmp};
 ghost use Rattle.ledger_core.specs.LedgerFields.{part_fields};
 ghost use Rattle.ident_core.specs.Sets.{key_set};
-ghost use Rattle.publication_core.specs.Leavings.{cut_by};
+ghost use Rattle.publication_core.specs.LeftOut.{cut_of};
 
-use crate::leaving::LeftOut;
+use crate::left_out::LeftOut;
 use ident_core::sort_keys_once;
 use ledger_core::LedgerPart;
 use octets_core::Key32;
@@ -26,7 +24,7 @@ fn put_others(
     issuers: &[Key32],
     left_out: &LeftOut,
 ) -> Result<(), AllocError>
-    ensures { OnOk result (keys.new.items ≡ keys.old.items ++ filter (cut_by left_out.now).takes issuers.now) }
+    ensures { OnOk result (keys.new.items ≡ keys.old.items ++ filter (cut_of left_out.now).takes issuers.now) }
 {
     for issuer in issuers {
         if left_out.takes(issuer) {
@@ -43,7 +41,7 @@ fn each_issuer(
     left_out: &LeftOut,
 ) -> Result<Vec<Key32>, AllocError>
     ensures { IfOk result (λ keys. keys.items
-        ≡ flat_map (λ p. filter (cut_by left_out.now).takes p.issuers) (map part_fields parts.now)) }
+        ≡ flat_map (λ p. filter (cut_of left_out.now).takes p.issuers) (map part_fields parts.now)) }
 {
     let mut keys = Vec::with_capacity(alloc, room(parts))?;
     for part in parts {
@@ -58,9 +56,8 @@ pub(crate) fn all_issuers(
     parts: &[LedgerPart],
     left_out: &LeftOut,
 ) -> Result<Vec<Key32>, AllocError>
-    ensures set { IfOk result (λ keys. keys.items
-        ≡ key_set (flat_map (λ p. filter (cut_by left_out.now).takes p.issuers) (map part_fields parts.now))) }
-    ensures ascend { IfOk result (λ keys. IsStrictlySortedBy octets_cmp keys.items) }
+    ensures { IfOk result (λ keys. keys.items
+        ≡ key_set (flat_map (λ p. filter (cut_of left_out.now).takes p.issuers) (map part_fields parts.now))) }
 {
     let mut keys = each_issuer(alloc, parts, left_out)?;
     sort_keys_once(&mut keys);

@@ -1,9 +1,9 @@
 ghost use Rattle.std.specs.Prelude.{◌≡◌, ◌&&◌, IfOk, map, filter, is_some, count_by, not};
 ghost use Rattle.universe_core.specs.Jobs.{is_stale};
 ghost use Rattle.universe_core.specs.Rebases.{is_lasting, is_kept_item, rebased_item};
-ghost use Rattle.publication_core.specs.Leavings.{cut_by};
+ghost use Rattle.publication_core.specs.LeftOut.{cut_of};
 
-use crate::leaving::LeftOut;
+use crate::left_out::LeftOut;
 use ledger_core::LedgerItem;
 use std::alloc::{AllocError, Global};
 
@@ -24,7 +24,7 @@ fn lasts(item: &LedgerItem, moment: u64) -> bool
 }
 
 fn stays(item: &LedgerItem, moment: u64, left_out: &LeftOut) -> bool
-    ensures { result ≡ (is_lasting moment item.now && is_kept_item (cut_by left_out.now) item.now) }
+    ensures { result ≡ (is_lasting moment item.now && is_kept_item (cut_of left_out.now) item.now) }
 {
     lasts(item, moment) && left_out.keeps(&item.id)
 }
@@ -42,7 +42,7 @@ fn renewed(item: &LedgerItem) -> LedgerItem
 }
 
 fn count_kept(items: &[LedgerItem], moment: u64, left_out: &LeftOut) -> usize
-    ensures { result ≡ count_by (λ i. is_lasting moment i && is_kept_item (cut_by left_out.now) i) items.now }
+    ensures { result ≡ count_by (λ i. is_lasting moment i && is_kept_item (cut_of left_out.now) i) items.now }
 {
     items
         .iter()
@@ -52,7 +52,7 @@ fn count_kept(items: &[LedgerItem], moment: u64, left_out: &LeftOut) -> usize
 
 /// How many items are left out.
 pub(crate) fn count_left(items: &[LedgerItem], left_out: &LeftOut) -> usize
-    ensures { result ≡ count_by (λ i. not (is_kept_item (cut_by left_out.now) i)) items.now }
+    ensures { result ≡ count_by (λ i. not (is_kept_item (cut_of left_out.now) i)) items.now }
 {
     items
         .iter()
@@ -68,7 +68,7 @@ pub(crate) fn kept(
     left_out: &LeftOut,
 ) -> Result<Vec<LedgerItem>, AllocError>
     ensures { IfOk result (λ out. out.items
-        ≡ map rebased_item (filter (λ i. is_lasting moment i && is_kept_item (cut_by left_out.now) i) items.now)) }
+        ≡ map rebased_item (filter (λ i. is_lasting moment i && is_kept_item (cut_of left_out.now) i) items.now)) }
 {
     let mut out = Vec::with_capacity(alloc, count_kept(items, moment, left_out))?;
     for item in items {

@@ -8,12 +8,12 @@ ghost use Rattle.universe_core.specs.Groups.{group_fields, IsGroup};
 ghost use Rattle.universe_core.specs.Members.{first_part};
 ghost use Rattle.universe_core.specs.Rebases.{is_lasting, issuers_in, count_left, count_pruned, group_among, ledger_cut};
 ghost use Rattle.universe_core.specs.Rebases.{rebased_head, rebased_groups, rebased_ledger};
-ghost use Rattle.publication_core.specs.Leavings.{cut_of};
+ghost use Rattle.publication_core.specs.LeftOut.{cut_of};
 
 use crate::base_fault::BaseFault;
 use crate::enrolling::all_issuers;
 use crate::keeping::{count_left as left_of, flags, kept};
-use crate::leaving::{Leaving, LeftOut};
+use crate::left_out::LeftOut;
 use crate::rebased::Rebased;
 use ident_core::{Head, Kind, MAX_ISSUERS};
 use job_core::What;
@@ -99,28 +99,27 @@ pub fn rebase(
     alloc: Global,
     ledger: &Ledger,
     moment: u64,
-    leaving: &Leaving<'_>,
+    left_out: &LeftOut,
 ) -> Result<Rebased, BaseFault>
-    ensures rebased { OnOk result (length (issuers_in (ledger_cut (cut_of leaving.now) ledger.now).parts) ≤ MAX_ISSUERS) }
+    ensures rebased { OnOk result (length (issuers_in (ledger_cut (cut_of left_out.now) ledger.now).parts) ≤ MAX_ISSUERS) }
     ensures refused { IfErr result (λ e. e ≢ BaseFault.NoMemory
         → (e ≡ BaseFault.TooMany What.Issuers MAX_ISSUERS)
-        × (MAX_ISSUERS < length (issuers_in (ledger_cut (cut_of leaving.now) ledger.now).parts))) }
-    ensures head { IfOk result (λ r. r.head ≡ rebased_head (ledger_cut (cut_of leaving.now) ledger.now).parts) }
+        × (MAX_ISSUERS < length (issuers_in (ledger_cut (cut_of left_out.now) ledger.now).parts))) }
+    ensures head { IfOk result (λ r. r.head ≡ rebased_head (ledger_cut (cut_of left_out.now) ledger.now).parts) }
     ensures groups { IfOk result (λ r. map group_fields r.groups.items
-        ≡ rebased_groups (is_lasting moment) (ledger_cut (cut_of leaving.now) ledger.now)) }
+        ≡ rebased_groups (is_lasting moment) (ledger_cut (cut_of left_out.now) ledger.now)) }
     ensures facts { IfOk result (λ r. All IsGroup (map group_fields r.groups.items)) }
-    ensures pruned { IfOk result (λ r. r.pruned ≡ count_pruned (is_lasting moment) (ledger_cut (cut_of leaving.now) ledger.now)) }
-    ensures left { IfOk result (λ r. r.left ≡ count_left (cut_of leaving.now) ledger.now) }
+    ensures pruned { IfOk result (λ r. r.pruned ≡ count_pruned (is_lasting moment) (ledger_cut (cut_of left_out.now) ledger.now)) }
+    ensures left { IfOk result (λ r. r.left ≡ count_left (cut_of left_out.now) ledger.now) }
     // For every trailer that the part may have.
     ensures next { IfOk result (λ r. (trailer : List ℕ)
-        → sealed_with r.next trailer ≡ rebased_ledger (is_lasting moment) (ledger_cut (cut_of leaving.now) ledger.now) trailer) }
+        → sealed_with r.next trailer ≡ rebased_ledger (is_lasting moment) (ledger_cut (cut_of left_out.now) ledger.now) trailer) }
 {
-    let left_out = LeftOut::new(alloc, leaving)?;
-    let issuers = all_issuers(alloc, ledger.parts(), &left_out)?;
+    let issuers = all_issuers(alloc, ledger.parts(), left_out)?;
     check_limit(issuers.len())?;
     let newest = newest_of(ledger.parts());
-    let items = kept(alloc, ledger.items(), moment, &left_out)?;
-    let left = left_of(ledger.items(), &left_out);
+    let items = kept(alloc, ledger.items(), moment, left_out)?;
+    let left = left_of(ledger.items(), left_out);
     let pruned = ledger.items().len() - items.len() - left;
     let groups = groups_of(alloc, &issuers, &items)?;
     let head = head_at(alloc, newest)?;

@@ -2,7 +2,6 @@
 use Rattle.std.proofs.Common.{◌≡◌, ℕ, ◌+◌, inl, inr, ⊎_elim, List, [], ◌∷◌, ◌++◌, map, not, Bool, true, false, cond, Option, Some, None, refl, sym, ap, ◌∙◌, subst, arith}
 use Rattle.std.specs.Prelude.{All}
 use Rattle.std.specs.List.{filter, filter_map, find}
-use Rattle.std.specs.List.Sorted.{IsStrictlySortedBy}
 use Rattle.std.specs.Option.{option_or}
 use Rattle.std.specs.declared.cmp.Ordering.{Ordering}
 use Rattle.std.specs.declared.cmp.Ordering.TheVariants.{Less, Equal, Greater}
@@ -19,11 +18,11 @@ use Rattle.ledger_core.specs.declared.fields.LedgerItem.{LedgerItem}
 use Rattle.ident_core.specs.Among.{Among}
 use Rattle.ident_core.proofs.Elements.{Among-left, Among-right, Among-cases}
 use Rattle.ident_core.proofs.Keys.{same_other}
-use Rattle.ident_core.proofs.Order.{lt_less, sorted_all_inserted, sorted_unique}
-use Rattle.ident_core.proofs.Sets.{identity_exact, identity_total, Among-with_all, Among-in_with_all}
+use Rattle.ident_core.proofs.Order.{lt_less, sorted_unique}
+use Rattle.ident_core.proofs.Sets.{identity_exact, identity_total, identities_are, Among-union, Among-in_union}
 use Rattle.universe_core.specs.Jobs.{Entry}
 use Rattle.universe_core.specs.Merging.{all_ids, count_told, merged}
-use Rattle.universe_core.proofs.Ascending.{both_ascend, parts_ascend}
+use Rattle.universe_core.proofs.Ascending.{both_ascend}
 use Rattle.universe_core.proofs.Merge.{agree}
 
 abbrev entry_ids : List Entry → List Identity
@@ -111,11 +110,11 @@ module _ (x : Identity) where
 
       all_before : (z : Identity) → Among (all_ids low front) z → comes_before z ≡ true
       all_before z m = ⊎_elim (λ a. among_all (λ (e : Entry). e.id) true front entries_before z a) (λ a. among_all (λ (i : LedgerItem). i.id) true low items_before z a)
-          (Among-with_all (entry_ids front) (ids low) z m)
+          (Among-union (entry_ids front) (ids low) z m)
 
       all_behind : (z : Identity) → Among (all_ids high back) z → comes_before z ≡ false
       all_behind z m = ⊎_elim (λ a. among_all (λ (e : Entry). e.id) false back entries_behind z a) (λ a. among_all (λ (i : LedgerItem). i.id) false high items_behind z a)
-          (Among-with_all (entry_ids back) (ids high) z m)
+          (Among-union (entry_ids back) (ids high) z m)
 
       ids_whole : ids (low ++ high) ≡ ids low ++ ids high
       ids_whole = map-append (λ (i : LedgerItem). i.id) low high
@@ -123,34 +122,33 @@ module _ (x : Identity) where
       entry_ids_whole : entry_ids (front ++ back) ≡ entry_ids front ++ entry_ids back
       entry_ids_whole = map-append (λ (e : Entry). e.id) front back
 
-      ids_apart : IsStrictlySortedBy identity_cmp (ids (low ++ high)) → all_ids (low ++ high) (front ++ back) ≡ all_ids low front ++ all_ids high back
-      ids_apart s =
-          let t = parts_ascend identity_cmp (ids low) (ids high) (subst (IsStrictlySortedBy identity_cmp) ids_whole s) in
+      ids_apart : all_ids (low ++ high) (front ++ back) ≡ all_ids low front ++ all_ids high back
+      ids_apart =
           sorted_unique identity_cmp identity_total (all_ids (low ++ high) (front ++ back)) (all_ids low front ++ all_ids high back)
-          (sorted_all_inserted identity_cmp identity_total (entry_ids (front ++ back)) (ids (low ++ high)) s)
+          (identities_are (entry_ids (front ++ back) ++ ids (low ++ high))).ascends
           (both_ascend identity_cmp (all_ids low front) (all_ids high back)
-          (sorted_all_inserted identity_cmp identity_total (entry_ids front) (ids low) t.0)
-          (sorted_all_inserted identity_cmp identity_total (entry_ids back) (ids high) t.1)
+          (identities_are (entry_ids front ++ ids low)).ascends
+          (identities_are (entry_ids back ++ ids high)).ascends
           (λ y z a b. before_less y z (all_before y a) (all_behind z b)))
           (λ z m. ⊎_elim
           (λ a. ⊎_elim
-          (λ b. Among-left (all_ids low front) (all_ids high back) z (Among-in_with_all (entry_ids front) (ids low) z (inl b)))
-          (λ b. Among-right (all_ids low front) (all_ids high back) z (Among-in_with_all (entry_ids back) (ids high) z (inl b)))
+          (λ b. Among-left (all_ids low front) (all_ids high back) z (Among-in_union (entry_ids front) (ids low) z (inl b)))
+          (λ b. Among-right (all_ids low front) (all_ids high back) z (Among-in_union (entry_ids back) (ids high) z (inl b)))
           (Among-cases (entry_ids front) (entry_ids back) z (subst (λ zs. Among zs z) entry_ids_whole a)))
           (λ a. ⊎_elim
-          (λ b. Among-left (all_ids low front) (all_ids high back) z (Among-in_with_all (entry_ids front) (ids low) z (inr b)))
-          (λ b. Among-right (all_ids low front) (all_ids high back) z (Among-in_with_all (entry_ids back) (ids high) z (inr b)))
+          (λ b. Among-left (all_ids low front) (all_ids high back) z (Among-in_union (entry_ids front) (ids low) z (inr b)))
+          (λ b. Among-right (all_ids low front) (all_ids high back) z (Among-in_union (entry_ids back) (ids high) z (inr b)))
           (Among-cases (ids low) (ids high) z (subst (λ zs. Among zs z) ids_whole a)))
-          (Among-with_all (entry_ids (front ++ back)) (ids (low ++ high)) z m))
-          (λ z m. Among-in_with_all (entry_ids (front ++ back)) (ids (low ++ high)) z (⊎_elim
+          (Among-union (entry_ids (front ++ back)) (ids (low ++ high)) z m))
+          (λ z m. Among-in_union (entry_ids (front ++ back)) (ids (low ++ high)) z (⊎_elim
           (λ a. ⊎_elim
           (λ b. inl (subst (λ zs. Among zs z) (sym entry_ids_whole) (Among-left (entry_ids front) (entry_ids back) z b)))
           (λ b. inr (subst (λ zs. Among zs z) (sym ids_whole) (Among-left (ids low) (ids high) z b)))
-          (Among-with_all (entry_ids front) (ids low) z a))
+          (Among-union (entry_ids front) (ids low) z a))
           (λ a. ⊎_elim
           (λ b. inl (subst (λ zs. Among zs z) (sym entry_ids_whole) (Among-right (entry_ids front) (entry_ids back) z b)))
           (λ b. inr (subst (λ zs. Among zs z) (sym ids_whole) (Among-right (ids low) (ids high) z b)))
-          (Among-with_all (entry_ids back) (ids high) z a))
+          (Among-union (entry_ids back) (ids high) z a))
           (Among-cases (all_ids low front) (all_ids high back) z m)))
 
       entries_of_before : (y : Identity) → comes_before y ≡ true → filter (λ (e : Entry). is_same y e.id) (front ++ back) ≡ filter (λ (e : Entry). is_same y e.id) front
@@ -164,14 +162,14 @@ module _ (x : Identity) where
           filter-append (λ (e : Entry). is_same y e.id) front back
           ∙ ap (λ zs. zs ++ filter (λ (e : Entry). is_same y e.id) back) (no_entry y false front h entries_before)
 
-      pub merged_apart : {M : Type 0} (judge : Identity → Option LedgerItem → List Entry → Option M) → IsStrictlySortedBy identity_cmp (ids (low ++ high))
+      pub merged_apart : {M : Type 0} (judge : Identity → Option LedgerItem → List Entry → Option M)
           → merged judge (low ++ high) (front ++ back) ≡ merged judge low front ++ merged judge high back
       unfolding merged
-      merged_apart {M = M} judge s =
+      merged_apart {M = M} judge =
           let made : List LedgerItem → List Entry → Identity → Option M =
           λ is es y. judge y (find (λ (i : LedgerItem). is_same y i.id) is) (filter (λ (e : Entry). is_same y e.id) es) in
           let whole = made (low ++ high) (front ++ back) in
-          ap (filter_map whole) (ids_apart s) ∙ filter_map-append whole (all_ids low front) (all_ids high back)
+          ap (filter_map whole) ids_apart ∙ filter_map-append whole (all_ids low front) (all_ids high back)
           ∙ ap (λ zs. zs ++ filter_map whole (all_ids high back)) (agree whole (made low front) (all_ids low front) (λ y a.
           ap (λ o. judge y o (filter (λ (e : Entry). is_same y e.id) (front ++ back))) (item_before y (all_before y a))
           ∙ ap (judge y (find (λ (i : LedgerItem). is_same y i.id) low)) (entries_of_before y (all_before y a))))

@@ -2,11 +2,7 @@
 use Rattle.std.specs.List.{AllByRecursion, filter_map, cons_option}
 use Rattle.std.specs.List.Sorted.{IsStrictlySortedBy}
 use Rattle.std.specs.Str.{bytes_eq}
-use Rattle.std.specs.BTreeSet.{insert_key}
-use Rattle.std.specs.declared.cmp.Ordering.{Ordering}
-use Rattle.std.specs.declared.cmp.Ordering.TheVariants.{Less, Equal, Greater}
-use Rattle.std.specs.Ordering.{match_ordering}
-use Rattle.std.proofs.Common.{◌≡◌, ℕ, suc, ◌+◌, ◌<◌, ◌≤◌, List, [], ◌∷◌, map, filter, length, All, Bool, true, false, cond, nat_lt, Option, Some, None, refl, sym, arith}
+use Rattle.std.proofs.Common.{◌≡◌, ℕ, ◌<◌, ◌≤◌, List, [], ◌∷◌, map, filter, length, All, Bool, true, false, cond, nat_lt, Option, Some, None, refl, sym, arith}
 use Rattle.std.proofs.lemmas.Bool.{lt-ltb, le-ltb}
 use Rattle.std.proofs.lemmas.List.{length-map}
 use Rattle.std.proofs.lemmas.List.Elements.{All-from_recursion}
@@ -20,10 +16,10 @@ use Rattle.job_core.specs.JobFields.{CrlMeaning, JobFields, crl_view, fields_of_
 use Rattle.job_core.specs.declared.meaning.Job.{Job}
 use Rattle.ledger_core.specs.declared.fields.LedgerItem.{LedgerItem}
 use Rattle.ledger_core.specs.LedgerFields.{LedgerFields}
-use Rattle.ident_core.specs.Sets.{has, all_inserted, key_set}
+use Rattle.ident_core.specs.Sets.{has, key_set}
 use Rattle.ident_core.proofs.Canonical.{all_from}
 use Rattle.ident_core.proofs.Elements.{map_back, Among-filter}
-use Rattle.ident_core.proofs.Sets.{bytes_same}
+use Rattle.ident_core.proofs.Sets.{bytes_same, set_few}
 use Rattle.universe_core.specs.Jobs.{Crl, JobFacts, facts_of_job, accepted_crl, facts_of, enrolled}
 use Rattle.universe_core.specs.History.{Past, Release}
 use Rattle.universe_core.specs.Ledgers.{next_item}
@@ -41,22 +37,11 @@ few_by limits n h = let b : nat_lt limits.identities n ≡ false = le-ltb limits
 
 -- ---- how many issuers are enrolled
 
-insert_few : {K : Type 0} (cmp : K → K → Ordering) (x : K) (ys : List K) → length (insert_key cmp ys x) ≤ suc (length ys)
-insert_few cmp x [] = omega arith
-insert_few cmp x (y ∷ ys) =
-    let n = insert_few cmp x ys in
-    elim (cmp x y) as (λ o. length (match_ordering o (x ∷ y ∷ ys) (y ∷ ys) (y ∷ insert_key cmp ys x)) ≤ suc (length (y ∷ ys))) [ Less ↦ omega arith | Equal ↦ omega arith | Greater ↦ omega arith ]
-
-set_few : {K : Type 0} (cmp : K → K → Ordering) (xs ys : List K) → length (all_inserted cmp xs ys) ≤ length xs + length ys
-unfolding all_inserted
-set_few cmp [] ys = omega arith
-set_few cmp (x ∷ xs) ys = let n = set_few cmp xs (insert_key cmp ys x) in let m = insert_few cmp x ys in omega arith
-
 pub enrolled_few : (job : JobFacts) → length (enrolled job) ≤ length job.crls
 unfolding enrolled
-enrolled_few job = few_of _ (key_set (map (λ (c : Crl). c.issuer) job.crls)) (set_few octets_cmp (map (λ (c : Crl). c.issuer) job.crls) [])
+enrolled_few job = few_of _ (key_set (map (λ (c : Crl). c.issuer) job.crls)) (set_few octets_cmp (map (λ (c : Crl). c.issuer) job.crls))
   where
-    few_of : (p : List ℕ → Bool) (ks : List (List ℕ)) → length ks ≤ length (map (λ (c : Crl). c.issuer) job.crls) + 0 → length (filter p ks) ≤ length job.crls
+    few_of : (p : List ℕ → Bool) (ks : List (List ℕ)) → length ks ≤ length (map (λ (c : Crl). c.issuer) job.crls) → length (filter p ks) ≤ length job.crls
     few_of p ks h = let a = length-filter p ks in let b = count_by-le-length p ks in let m = length-map job.crls (λ (c : Crl). c.issuer) in omega arith
 
 accepted_few : (cs : List CrlMeaning) → length (filter_map accepted_crl cs) ≤ length cs

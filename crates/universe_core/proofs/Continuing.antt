@@ -27,7 +27,7 @@ use Rattle.ident_core.specs.Among.{Among}
 use Rattle.ident_core.specs.Sets.{has}
 use Rattle.ident_core.proofs.Canonical.{Contains-from_Among}
 use Rattle.ident_core.proofs.Order.{sorted_none}
-use Rattle.ident_core.proofs.Sets.{identity_total, with_all_ascends}
+use Rattle.ident_core.proofs.Sets.{identity_total, identities_are}
 use Rattle.universe_core.specs.Jobs.{JobFacts, facts_of, enrolled}
 use Rattle.universe_core.specs.History.{shown, accepted_with, universe, revoked, released}
 use Rattle.universe_core.specs.Ledgers.{no_ledger, past_in, item_of, birth_or, last_or_none, next_item, next_ledger}
@@ -154,7 +154,7 @@ item_by n x until (Some i) false h = let m = IsItemOf-more n (n + 1) i (omega ar
 module _ (ledger : LedgerFields) (job : JobFacts) (before : IsBefore ledger) where
   pub accepted_ascends : IsStrictlySortedBy identity_cmp (accepted_with (past_in ledger) job)
   unfolding accepted_with past_in
-  accepted_ascends = with_all_ascends (map (λ e. e.id) (shown (past_in ledger) job)) (ids ledger.items) before.items_ascend
+  accepted_ascends = (identities_are (map (λ e. e.id) (shown (past_in ledger) job) ++ ids ledger.items)).ascends
 
   item_is : (x : Identity) → IsItemOf (length ledger.parts + 1) (next_item (past_in ledger) ledger job x)
   unfolding item_of

@@ -142,12 +142,11 @@ module _ {c : Context} {items : List LedgerItem} {entries : List ReadEntry} (giv
         let here = IsPlaced c.issuers.now c.ranges.now in
         let before = in_order true front one (all_low halves here given.placed) p halves.before in
         let behind = in_order false back two (all_high halves here given.placed) q halves.behind in
-        let ascend = subst (λ is. IsStrictlySortedBy identity_cmp (ids is)) whole given.items_ascend in
         let made = made_of_both c low one in
         let more = made_of_both c high two in
         let both : of (one ++ two) ≡ of one ++ of two = map-append (entry_fields c.issuers.now c.ranges.now) one two in
         let apart : made_of_both c items (one ++ two) ≡ made ++ more =
-        (λ i. merged (judge_of c.parts.now) (whole i) (both i)) ∙ merged_apart x low high a b (of one) (of two) before behind (judge_of c.parts.now) ascend in
+        (λ i. merged (judge_of c.parts.now) (whole i) (both i)) ∙ merged_apart x low high a b (of one) (of two) before behind (judge_of c.parts.now) in
         let settles : Member → Bool = λ v. v.settled in
         let test = is_late_beside c.parts.now in
         let counted : count_told test items (of (one ++ two)) ≡ count_told test low (of one) + count_told test high (of two) =

@@ -8,8 +8,7 @@ use Rattle.ident_core.specs.Order.{octets_cmp}
 use Rattle.job_core.specs.declared.meaning.JobCrl.{JobCrl}
 use Rattle.job_core.specs.JobFields.{crl_view}
 use Rattle.ident_core.specs.Sets.{has_key, key_set}
-use Rattle.ident_core.proofs.Elements.{bool_same}
-use Rattle.ident_core.proofs.Sets.{Among-from_has_key, has_key-from_Among, Among-key_set, Among-from_key_set, key_set_ascends}
+use Rattle.ident_core.proofs.Sets.{has_key_set, key_set_ascends}
 use Rattle.universe_core.specs.Jobs.{Crl, JobFacts, accepted_crl, is_stale, crls_of, enrolled}
 use Rattle.universe_core.specs.Enrolling.{facts_of_crl, issuer_if, stale_issuer_if}
 
@@ -18,12 +17,6 @@ unfolding enrolled
 enrolled_ascend job =
     IsStrictlySortedBy-filter octets_cmp (λ issuer. list_all (λ c. not (is_stale job.moment c.next_update)) (crls_of issuer job)) (key_set (map (λ c. c.issuer) job.crls))
     (key_set_ascends (map (λ c. c.issuer) job.crls))
-
-pub has_key_set : (ks : List (List ℕ)) (k : List ℕ) → has_key (key_set ks) k ≡ has_key ks k
-has_key_set ks k =
-    bool_same (has_key (key_set ks) k) (has_key ks k)
-    (λ h. has_key-from_Among ks k (Among-from_key_set ks k (Among-from_has_key (key_set ks) k h)))
-    (λ h. has_key-from_Among (key_set ks) k (Among-key_set ks k (Among-from_has_key ks k h)))
 
 abbrev issuers_in : List Crl → List (List ℕ)
 issuers_in cs = map (λ (c : Crl). c.issuer) cs

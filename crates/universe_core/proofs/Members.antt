@@ -29,8 +29,8 @@ use Rattle.ledger_core.specs.LedgerFields.{LedgerFields, LedgerPartFields, part_
 use Rattle.ledger_core.specs.declared.fields.LedgerPart.{LedgerPart}
 use Rattle.ledger_core.specs.declared.fields.LedgerItem.{LedgerItem}
 use Rattle.ident_core.proofs.Elements.{Among-filter, Among-in_filter, Among-map, Among-in_map, Among-filter_map, Among-in_filter_map, found, any_at, all_at, all_from, bool_same, map_agree}
-use Rattle.ident_core.proofs.Sets.{same_is, same_refl, identity_total, Among-with_all, Among-in_with_all}
-use Rattle.ident_core.proofs.Order.{sorted_unique, sorted_all_inserted}
+use Rattle.ident_core.proofs.Sets.{same_is, same_refl, identity_total, identities_are, Among-union, Among-in_union}
+use Rattle.ident_core.proofs.Order.{sorted_unique}
 use Rattle.universe_core.specs.declared.member.Member.{Member}
 use Rattle.universe_core.specs.Merging.{all_ids, count_told, merged}
 use Rattle.universe_core.specs.Judging.{is_late_beside, is_timely, timely, sightings_of, dates_of, is_member_of, member_of, judge_of}
@@ -331,19 +331,17 @@ module _ (parts : List LedgerPart) (items : List LedgerItem) (job : JobFacts) (s
   in_accepted : (z : Identity) → Among (map (λ (e : Entry). e.id) (shown (past_in ledger) job)) z ⊎ Among (item_ids items) z → Among accepted z
   unfolding accepted_with past_in
   in_accepted z a =
-      Among-in_with_all (map (λ (e : Entry). e.id) (shown (past_in ledger) job)) (item_ids items) z
+      Among-in_union (map (λ (e : Entry). e.id) (shown (past_in ledger) job)) (item_ids items) z
       a
 
   of_accepted : (z : Identity) → Among accepted z → Among (map (λ (e : Entry). e.id) (shown (past_in ledger) job)) z ⊎ Among (item_ids items) z
   unfolding accepted_with past_in
   of_accepted z a =
-      Among-with_all (map (λ (e : Entry). e.id) (shown (past_in ledger) job)) (item_ids items) z a
+      Among-union (map (λ (e : Entry). e.id) (shown (past_in ledger) job)) (item_ids items) z a
 
-  accepted_sorted : IsStrictlySortedBy identity_cmp (item_ids items) → IsStrictlySortedBy identity_cmp accepted
+  accepted_sorted : IsStrictlySortedBy identity_cmp accepted
   unfolding accepted_with past_in
-  accepted_sorted s =
-      sorted_all_inserted identity_cmp identity_total (map (λ (e : Entry). e.id) (shown (past_in ledger) job)) (item_ids items)
-      s
+  accepted_sorted = (identities_are (map (λ (e : Entry). e.id) (shown (past_in ledger) job) ++ item_ids items)).ascends
 
   shown_id : (z : Identity) (e : Entry) → Among sorted e → z ≡ e.id → (past_in ledger).comes_late e.id e.sighting ≡ false → Among (map (λ (d : Entry). d.id) (shown (past_in ledger) job)) z
   shown_id z e a i l =
@@ -367,26 +365,26 @@ module _ (parts : List LedgerPart) (items : List LedgerItem) (job : JobFacts) (s
       let d = shown_from (past_in ledger) job sorted reads e m.1 in
       let i : z ≡ e.id = sym m.2 in
       let u : Among (all_ids items sorted) z =
-      Among-in_with_all (map (λ (e : Entry). e.id) sorted) (item_ids items) z
+      Among-in_union (map (λ (e : Entry). e.id) sorted) (item_ids items) z
       (inl (subst (λ y. Among (map (λ (e : Entry). e.id) sorted) y) (sym i) (Among-in_map (λ (e : Entry). e.id) sorted e d.0))) in
       Among-in_filter test (all_ids items sorted) z u
       (or_right (is_some (item_at z)) (list_any (timely_test z) (run_at z)) (any_at (timely_test z) (run_at z) e (run_from z e d.0 i) (timely_at z e i d.1)))
 
   from_item : (z : Identity) → Among (item_ids items) z → Among (filter test (all_ids items sorted)) z
   from_item z a =
-      Among-in_filter test (all_ids items sorted) z (Among-in_with_all (map (λ (e : Entry). e.id) sorted) (item_ids items) z (inr a))
+      Among-in_filter test (all_ids items sorted) z (Among-in_union (map (λ (e : Entry). e.id) sorted) (item_ids items) z (inr a))
       (or_left (is_some (item_at z)) (list_any (timely_test z) (run_at z)) (some_item z items a))
 
-  kept_is : IsStrictlySortedBy identity_cmp (item_ids items) → filter test (all_ids items sorted) ≡ accepted
-  kept_is s =
+  kept_is : filter test (all_ids items sorted) ≡ accepted
+  kept_is =
       sorted_unique identity_cmp identity_total (filter test (all_ids items sorted)) accepted
-      (IsStrictlySortedBy-filter identity_cmp test (all_ids items sorted) (sorted_all_inserted identity_cmp identity_total (map (λ (e : Entry). e.id) sorted) (item_ids items) s))
-      (accepted_sorted s) kept_to (λ z a. ⊎_elim (λ p. from_shown z p) (λ q. from_item z q) (of_accepted z a))
+      (IsStrictlySortedBy-filter identity_cmp test (all_ids items sorted) (identities_are (map (λ (e : Entry). e.id) sorted ++ item_ids items)).ascends)
+      accepted_sorted kept_to (λ z a. ⊎_elim (λ p. from_shown z p) (λ q. from_item z q) (of_accepted z a))
 
   -- the merge gives the accepted identities, each with its birth, its last and whether its sightings are settled
-  pub members_are : IsStrictlySortedBy identity_cmp (item_ids items) → merged (judge_of parts) items sorted ≡ map member_for accepted
+  pub members_are : merged (judge_of parts) items sorted ≡ map member_for accepted
   unfolding merged
-  members_are s =
+  members_are =
       filter_map_test test (λ x. member_of parts x (item_at x) (run_at x)) (all_ids items sorted)
-      ∙ ap (map (λ x. member_of parts x (item_at x) (run_at x))) (kept_is s)
+      ∙ ap (map (λ x. member_of parts x (item_at x) (run_at x))) kept_is
       ∙ map_agree (λ x. member_of parts x (item_at x) (run_at x)) member_for accepted (λ x a. member_is x)

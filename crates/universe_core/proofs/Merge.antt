@@ -14,10 +14,10 @@ use Rattle.std.proofs.lemmas.List.Sums.{sum_by-cons, count_by-le-length}
 use Rattle.ident_core.specs.Among.{Among}
 use Rattle.ident_core.specs.declared.identity.Identity.{Identity}
 use Rattle.ident_core.specs.Order.{is_same, identity_cmp}
-use Rattle.ident_core.specs.Sets.{with_all, all_inserted}
+use Rattle.ident_core.specs.Sets.{identity_set, set_with}
 use Rattle.ledger_core.specs.declared.fields.LedgerItem.{LedgerItem}
-use Rattle.ident_core.proofs.Sets.{same_is, same_refl, identity_exact, identity_total, Among-with_all, Among-in_with_all}
-use Rattle.ident_core.proofs.Order.{sorted_unique, sorted_all_inserted, sorted_head, sorted_tail}
+use Rattle.ident_core.proofs.Sets.{same_is, same_refl, identity_exact, identity_total, identities_are, Among-union, Among-in_union}
+use Rattle.ident_core.proofs.Order.{sorted_unique, sorted_head, sorted_tail}
 use Rattle.universe_core.specs.Jobs.{Entry}
 use Rattle.universe_core.specs.Merging.{IsRising, lower, least_of, run_of, after_run, first_of, after_first, count_told, all_ids, merged}
 use Rattle.ident_core.proofs.Canonical.{sorted_cons, all_from}
@@ -25,18 +25,18 @@ use Rattle.ident_core.proofs.Keys.{same_other, less_other}
 
 -- ---- the union without its least
 
-pub union_step : (x : Identity) (a a' b b' : List Identity) → IsStrictlySortedBy identity_cmp b → IsStrictlySortedBy identity_cmp b'
+pub union_step : (x : Identity) (a a' b b' : List Identity)
     → ((z : Identity) → Among a z → (x ≡ z) ⊎ Among a' z) → ((z : Identity) → Among b z → (x ≡ z) ⊎ Among b' z)
     → ((z : Identity) → Among a' z → Among a z) → ((z : Identity) → Among b' z → Among b z)
     → Among a x ⊎ Among b x
     → ((z : Identity) → Among a' z → identity_cmp x z ≡ Less) → ((z : Identity) → Among b' z → identity_cmp x z ≡ Less)
-    → with_all a b ≡ x ∷ with_all a' b'
-union_step x a a' b b' s s' fa fb ga gb has la lb =
-    sorted_unique identity_cmp identity_total (with_all a b) (x ∷ with_all a' b') (sorted_all_inserted identity_cmp identity_total a b s)
-    (sorted_cons identity_cmp x (with_all a' b') (λ z m. ⊎_elim (λ p. la z p) (λ q. lb z q) (Among-with_all a' b' z m)) (sorted_all_inserted identity_cmp identity_total a' b' s'))
-    (λ z m. ⊎_elim (λ p. ⊎_elim (λ e. inl e) (λ r. inr (Among-in_with_all a' b' z (inl r))) (fa z p))
-    (λ q. ⊎_elim (λ e. inl e) (λ r. inr (Among-in_with_all a' b' z (inr r))) (fb z q)) (Among-with_all a b z m))
-    (λ z m. Among-in_with_all a b z (⊎_elim (λ (e : x ≡ z). subst (λ w. Among a w ⊎ Among b w) e has) (λ r. ⊎_elim (λ p. inl (ga z p)) (λ q. inr (gb z q)) (Among-with_all a' b' z r)) m))
+    → identity_set (a ++ b) ≡ x ∷ identity_set (a' ++ b')
+union_step x a a' b b' fa fb ga gb has la lb =
+    sorted_unique identity_cmp identity_total (identity_set (a ++ b)) (x ∷ identity_set (a' ++ b')) (identities_are (a ++ b)).ascends
+    (sorted_cons identity_cmp x (identity_set (a' ++ b')) (λ z m. ⊎_elim (λ p. la z p) (λ q. lb z q) (Among-union a' b' z m)) (identities_are (a' ++ b')).ascends)
+    (λ z m. ⊎_elim (λ p. ⊎_elim (λ e. inl e) (λ r. inr (Among-in_union a' b' z (inl r))) (fa z p))
+    (λ q. ⊎_elim (λ e. inl e) (λ r. inr (Among-in_union a' b' z (inr r))) (fb z q)) (Among-union a b z m))
+    (λ z m. Among-in_union a b z (⊎_elim (λ (e : x ≡ z). subst (λ w. Among a w ⊎ Among b w) e has) (λ r. ⊎_elim (λ p. inl (ga z p)) (λ q. inr (gb z q)) (Among-union a' b' z r)) m))
 
 -- ---- orders
 
@@ -274,14 +274,14 @@ merged_step {M} judge x items entries s r h =
     let g : Identity → Option M = λ y. judge y (find (λ (i : LedgerItem). is_same y i.id) (after_first x items)) (filter (λ (e : Entry). is_same y e.id) (after_run x entries)) in
     let rest : List Identity = all_ids (after_first x items) (after_run x entries) in
     let ids : all_ids items entries ≡ x ∷ rest =
-    union_step x (map (λ (e : Entry). e.id) entries) (map (λ (e : Entry). e.id) (after_run x entries)) (item_ids items) (item_ids (after_first x items)) s (first_sorted x items s)
+    union_step x (map (λ (e : Entry). e.id) entries) (map (λ (e : Entry). e.id) (after_run x entries)) (item_ids items) (item_ids (after_first x items))
     (ids_cases x entries) (first_cases x items) (ids_back x entries) (first_back x items) l.among (λ z a. after_ids x (after_run x entries) z behind a) above in
     let here : f x ≡ judge x (first_of x items) (run_of x entries) =
     ap (λ o. judge x o (filter (λ (e : Entry). is_same x e.id) entries)) (first_found x items above) ∙ ap (judge x (first_of x items)) (run_is x entries behind) in
     let there : filter_map f rest ≡ filter_map g rest =
     agree f g rest (λ y a.
     let n : (x ≡ y) → ⊥ = less_other x y (⊎_elim (λ p. after_ids x (after_run x entries) y behind p) (λ q. above y q)
-    (Among-with_all (map (λ (e : Entry). e.id) (after_run x entries)) (item_ids (after_first x items)) y a)) in
+    (Among-union (map (λ (e : Entry). e.id) (after_run x entries)) (item_ids (after_first x items)) y a)) in
     ap (λ o. judge y o (filter (λ (e : Entry). is_same y e.id) entries)) (first_passed x y items n) ∙ ap
     (judge y (find (λ (i : LedgerItem). is_same y i.id) (after_first x items))) (others_behind x y entries n)) in
     ap (filter_map f) ids ∙ ap (λ o. cons_option o (filter_map f rest)) here ∙ ap (cons_option (judge x (first_of x items) (run_of x entries))) there
@@ -346,7 +346,7 @@ step_done judge x items left entries after m out more whole s r h l a j o w =
 
 merged_none : {M : Type 0} (judge : Identity → Option LedgerItem → List Entry → Option M) (items : List LedgerItem) (entries : List Entry)
     → least_of items entries ≡ None → merged judge items entries ≡ []
-unfolding merged all_inserted
+unfolding merged set_with
 merged_none judge [] [] h = refl
 merged_none judge (i ∷ is) [] h = absurd cc
 merged_none judge [] (e ∷ es) h = absurd cc

@@ -8,7 +8,7 @@ use Rattle.ident_core.specs.declared.range.Sighting.{Sighting}
 use Rattle.ident_core.specs.declared.range.Range.{Range}
 use Rattle.ident_core.specs.Order.{is_same}
 use Rattle.ident_core.specs.Coverage.{covers, lies_in_some}
-use Rattle.ident_core.specs.Sets.{has, has_key, with_all}
+use Rattle.ident_core.specs.Sets.{has, has_key, identity_set}
 use Rattle.universe_core.specs.Jobs.{Entry, JobFacts, enrolled, lists}
 use Rattle.universe_core.specs.declared.class.Class.{Class}
 use Rattle.universe_core.specs.declared.class.Class.TheVariants.{Unread, Uncovered, Unenrolled, Late, Accepted}
@@ -67,7 +67,7 @@ sightings x entries = map (λ e. e.sighting) (filter (λ e. is_same x e.id) entr
 
 -- the identities accepted so far, the job's too
 unfoldable pub accepted_with : Past → JobFacts → List Identity
-accepted_with past job = with_all (map (λ e. e.id) (shown past job)) past.accepted
+accepted_with past job = identity_set (map (λ e. e.id) (shown past job) ++ past.accepted)
 
 -- ---- the universe and the revoked set
 

@@ -1,10 +1,10 @@
 -- Items of a ledger and entries of a job, merged.
-use Rattle.std.specs.Prelude.{◌≡◌, ℕ, Bool, List, [], ◌∷◌, map, filter, filter_map, find, false, cond, Option, Some, None}
+use Rattle.std.specs.Prelude.{◌≡◌, ℕ, Bool, List, [], ◌∷◌, ◌++◌, map, filter, filter_map, find, false, cond, Option, Some, None}
 use Rattle.std.specs.List.{AllByRecursion, count_by}
 use Rattle.std.specs.Ordering.{is_lt, is_gt}
 use Rattle.ident_core.specs.declared.identity.Identity.{Identity}
 use Rattle.ident_core.specs.Order.{is_same, identity_cmp}
-use Rattle.ident_core.specs.Sets.{with_all}
+use Rattle.ident_core.specs.Sets.{identity_set}
 use Rattle.ledger_core.specs.declared.fields.LedgerItem.{LedgerItem}
 use Rattle.universe_core.specs.Jobs.{Entry}
 
@@ -47,7 +47,7 @@ count_told test items entries = count_by (λ e. test (find (λ (i : LedgerItem).
 
 -- the identities of items and entries
 abbrev pub all_ids : List LedgerItem → List Entry → List Identity
-all_ids items entries = with_all (map (λ (e : Entry). e.id) entries) (map (λ (i : LedgerItem). i.id) items)
+all_ids items entries = identity_set (map (λ (e : Entry). e.id) entries ++ map (λ (i : LedgerItem). i.id) items)
 
 -- what a judge makes of the identities of both, each from its item and its entries
 unfoldable pub merged : {M : Type 0} → (Identity → Option LedgerItem → List Entry → Option M) → List LedgerItem → List Entry → List M

@@ -14,12 +14,12 @@ returns-in-Err-clause-reply g c =
 pub returns-in-Ok-publish_base-clause-reply : goal.returns-in-Ok-publish_base-clause-reply
 returns-in-Ok-publish_base-clause-reply g c =
     rebase_made (g.D.Depot.files c.args.depot.now) (WhichFailed g.D.Depot c.args.depot.now _) c.rebased.result c.args.rebase.now (λ l. l) c.in-Ok.ledger c.in-Ok-publish_base.publication
-    (rw c.as_str.ensures at c.in-Ok.ensures.input) (rw c.leaving_of.ensures at (c.in-Ok-publish_base.ensures (λ e. cc))) c.rebased.ensures
+    (rw c.as_str.ensures at c.in-Ok.ensures.input) (rw c.in_ok-left_out.ensures at (c.in-Ok-publish_base.ensures (λ e. cc))) c.rebased.ensures
 
-pub returns-in-Err-publish_base-clause-reply : goal.returns-in-Err-publish_base-clause-reply
-returns-in-Err-publish_base-clause-reply g c =
+pub returns-clause-reply : goal.returns-clause-reply
+returns-clause-reply g c =
     rebase_not (g.D.Depot.files c.args.depot.now) (WhichFailed g.D.Depot c.args.depot.now _) c.refused-in-Err-publish_base.result c.args.rebase.now (λ l. l) c.in-Ok.ledger
     c.in-Err-publish_base.fault (rw c.as_str.ensures at c.in-Ok.ensures.input)
-    (subst (λ (cut : Cut). NotRebased c.in-Ok.ledger c.args.rebase.now.moment cut c.in-Err-publish_base.fault) c.leaving_of.ensures c.in-Err-publish_base.ensures)
+    (subst (λ (cut : Cut). NotRebased c.in-Ok.ledger c.args.rebase.now.moment cut c.in-Err-publish_base.fault) c.in_ok-left_out.ensures c.in-Err-publish_base.ensures)
     (rw c.unrebased.ensures at c.refused-in-Err-publish_base.ensures.memory)
     (rw (c.unrebased.ensures, c.as_str-in-Err-publish_base.ensures) at c.refused-in-Err-publish_base.ensures.ok)

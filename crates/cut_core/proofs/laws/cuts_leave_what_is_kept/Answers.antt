@@ -8,7 +8,7 @@ use Rattle.cut_core.proofs.laws.cuts_leave_what_is_kept.Goals as goal
 
 pub returns : goal.returns
 returns c = record {
-  jobs = λ cut trailer other jobs. releases_beside cut trailer other [] [] jobs tt (λ r a. absurd a);
+  jobs = λ cut trailer other jobs. releases_beside cut trailer other [] [] jobs tt;
   courses = course_beside;
   histories = history_beside;
   bases = λ cut moment kept rs qs trailer other z. base_beside cut kept moment rs qs trailer other z;

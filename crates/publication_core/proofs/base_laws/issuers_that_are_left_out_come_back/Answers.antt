@@ -1,4 +1,4 @@
-use Rattle.publication_core.proofs.LeftOut.{left_out_verdict, comes_back}
+use Rattle.publication_core.proofs.LeavingOut.{left_out_verdict, comes_back}
 use Rattle.publication_core.proofs.base_laws.issuers_that_are_left_out_come_back.Goals as goal
 
 pub returns : goal.returns

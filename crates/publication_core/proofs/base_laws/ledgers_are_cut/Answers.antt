@@ -1,5 +1,5 @@
 use Rattle.publication_core.proofs.Built.{each_item}
-use Rattle.publication_core.proofs.Cuts.{head_cut, taken_issuers, other_kept, cut_by_everything}
+use Rattle.publication_core.proofs.Cuts.{head_cut, taken_issuers, other_kept, cut_of_everything}
 use Rattle.publication_core.proofs.base_laws.ledgers_are_cut.Goals as goal
 
 pub returns : goal.returns
@@ -8,5 +8,5 @@ returns c = record {
   issuers = λ cut l. taken_issuers cut l;
   items = λ cut keeps l. other_kept cut keeps l;
   each = λ cut keeps l. each_item cut keeps l;
-  all = λ l. cut_by_everything l;
+  all = λ l. cut_of_everything l;
 }

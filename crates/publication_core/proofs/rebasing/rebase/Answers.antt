@@ -1,25 +1,22 @@
 use Rattle.std.specs.List.{filter}
 use Rattle.std.specs.Prelude.{is_some}
-use Rattle.std.proofs.Common.{◌≡◌, ℕ, List, [], ◌∷◌, None, map, length, All, ap, sym, ◌∙◌, subst, arith}
+use Rattle.std.specs.List.Sorted.{IsStrictlySortedBy}
+use Rattle.std.proofs.Common.{[], ◌∷◌, None, map, flat_map, length, All, ap, sym, ◌∙◌, subst, arith}
 use Rattle.std.proofs.lemmas.Result.{err_from_is_err_and}
-use Rattle.ledger_core.specs.LedgerFields.{LedgerFields, IsLedger, ids, newest, part_fields}
-use Rattle.place_core.specs.Cuts.{Cut}
+use Rattle.ledger_core.specs.LedgerFields.{IsLedger, ids, newest, part_fields}
+use Rattle.ident_core.specs.Order.{octets_cmp}
+use Rattle.ident_core.proofs.Sets.{key_set_ascends}
 use Rattle.universe_core.specs.Groups.{group_fields, IsGroup}
-use Rattle.universe_core.specs.Rebases.{is_lasting, issuers_in, count_left, count_pruned, ledger_cut, rebased_groups, rebased_ledger}
+use Rattle.universe_core.specs.Rebases.{is_lasting, ledger_cut}
 use Rattle.publication_core.proofs.Built.{kept_of, counted, kept_ascend, groups_are, groups_facts, is_ledger, head_is, next_is}
 use Rattle.publication_core.proofs.Parts.{newest_fits}
-use Rattle.publication_core.specs.Leavings.{cut_of, cut_by}
+use Rattle.publication_core.specs.LeftOut.{cut_of}
 use Rattle.publication_core.proofs.Cuts.{issuers_cut, IsLedger-cut}
 use Rattle.publication_core.proofs.rebasing.rebase.Goals as goal
 
--- so many issuers
-many : (cut kept : Cut) (l : LedgerFields) (issuers : List (List ℕ)) → kept ≡ cut → issuers ≡ issuers_in (ledger_cut kept l).parts
-    → length issuers ≡ length (issuers_in (ledger_cut cut l).parts)
-many cut kept l issuers e i = ap length i ∙ ap (λ z. length (issuers_in (ledger_cut z l).parts)) e
-
 pub overflow_sub-pruned : goal.overflow_sub-pruned
 overflow_sub-pruned c =
-    let w = cut_by c.in_ok-left_out.left_out in
+    let w = cut_of c.args.left_out.now in
     let k = kept_of w (is_lasting c.args.moment) c.args.ledger.now c.items.result.now c.in_ok-items.items.items c.items.ensures.value c.in_ok-items.ensures in
     let n = counted w (is_lasting c.args.moment) c.args.ledger.now c.items-3.result.now c.items-2.result.now c.in_ok-items.items.items c.count_left-left.result
     c.items-3.ensures.value c.items-2.ensures.value k c.count_left-left.ensures in
@@ -28,7 +25,7 @@ overflow_sub-pruned c =
 
 pub overflow_sub-pruned-2 : goal.overflow_sub-pruned-2
 overflow_sub-pruned-2 c =
-    let w = cut_by c.in_ok-left_out.left_out in
+    let w = cut_of c.args.left_out.now in
     let k = kept_of w (is_lasting c.args.moment) c.args.ledger.now c.items.result.now c.in_ok-items.items.items c.items.ensures.value c.in_ok-items.ensures in
     let n = counted w (is_lasting c.args.moment) c.args.ledger.now c.items-3.result.now c.items-2.result.now c.in_ok-items.items.items c.count_left-left.result
     c.items-3.ensures.value c.items-2.ensures.value k c.count_left-left.ensures in
@@ -37,7 +34,7 @@ overflow_sub-pruned-2 c =
 
 pub groups_of-requires : goal.groups_of-requires
 groups_of-requires c =
-    let w = cut_by c.in_ok-left_out.left_out in
+    let w = cut_of c.args.left_out.now in
     let k = kept_of w (is_lasting c.args.moment) c.args.ledger.now c.items.result.now c.in_ok-items.items.items c.items.ensures.value c.in_ok-items.ensures in
     kept_ascend (is_lasting c.args.moment) (ledger_cut w c.args.ledger.now) c.deref-2.result.now
     (IsLedger-cut w c.args.ledger.now c.items.ensures.facts).items_ascend (c.deref-2.ensures.value ∙ k)
@@ -49,7 +46,7 @@ head_at-requires c =
 
 pub draft_of-requires : goal.draft_of-requires
 draft_of-requires c =
-    let w = cut_by c.in_ok-left_out.left_out in
+    let w = cut_of c.args.left_out.now in
     let k = kept_of w (is_lasting c.args.moment) c.args.ledger.now c.items.result.now c.in_ok-items.items.items c.items.ensures.value c.in_ok-items.ensures in
     let few = c.in_ok-check_limit.ensures.few in
     let n = c.len.ensures in
@@ -58,23 +55,21 @@ draft_of-requires c =
     (is_ledger (is_lasting c.args.moment) (ledger_cut w c.args.ledger.now) part.epoch part.ranges.items c.in_ok-issuers.issuers.items c.in_ok-items.items.items
     (IsLedger-cut w c.args.ledger.now c.parts.ensures.facts)
     (newest_fits None c.args.ledger.now.parts (part_fields part) c.parts.ensures.facts.parts (ap newest (sym c.parts-2.ensures.value) ∙ c.newest_of-newest.ensures))
-    (omega arith) c.in_ok-issuers.ensures.ascend k)
+    (omega arith) (subst (IsStrictlySortedBy octets_cmp) (sym c.in_ok-issuers.ensures) (key_set_ascends (flat_map (λ p. filter w.takes p.issuers) (map part_fields c.parts.result.now)))) k)
 
 pub returns-in_err-check_limit-clause-refused : goal.returns-in_err-check_limit-clause-refused
 returns-in_err-check_limit-clause-refused c =
     let q = err_from_is_err_and c.from_residual-in_err-check_limit.result c.from_residual-in_err-check_limit.ensures.1 in
-    let w = cut_by c.in_ok-left_out.left_out in
-    let n = many (cut_of c.args.leaving.now) w c.args.ledger.now c.in_ok-issuers.issuers.items c.in_ok-left_out.ensures
-    (c.in_ok-issuers.ensures.set ∙ issuers_cut w c.args.ledger.now (map part_fields c.parts.result.now) c.parts.ensures.value) in
+    let w = cut_of c.args.left_out.now in
+    let n = ap length (c.in_ok-issuers.ensures ∙ issuers_cut w c.args.ledger.now (map part_fields c.parts.result.now) c.parts.ensures.value) in
     let l = c.len.ensures in
     let above = c.in_err-check_limit.ensures.many in
     rw (q.1, q.2) (λ other. (above.0, omega (arith, n, above.1)))
 
 pub returns-clause-rebased : goal.returns-clause-rebased
 returns-clause-rebased c =
-    let w = cut_by c.in_ok-left_out.left_out in
-    let n = many (cut_of c.args.leaving.now) w c.args.ledger.now c.in_ok-issuers.issuers.items c.in_ok-left_out.ensures
-    (c.in_ok-issuers.ensures.set ∙ issuers_cut w c.args.ledger.now (map part_fields c.parts.result.now) c.parts.ensures.value) in
+    let w = cut_of c.args.left_out.now in
+    let n = ap length (c.in_ok-issuers.ensures ∙ issuers_cut w c.args.ledger.now (map part_fields c.parts.result.now) c.parts.ensures.value) in
     let l = c.len.ensures in
     let few = c.in_ok-check_limit.ensures.few in
     omega (arith, n)
@@ -82,19 +77,18 @@ returns-clause-rebased c =
 pub returns-clause-head : goal.returns-clause-head
 returns-clause-head c =
     c.in_ok-head.ensures
-    ∙ head_is (cut_of c.args.leaving.now) c.args.ledger.now (part_fields c.newest_of-newest.result.now) (ap newest (sym c.parts-2.ensures.value) ∙ c.newest_of-newest.ensures)
+    ∙ head_is (cut_of c.args.left_out.now) c.args.ledger.now (part_fields c.newest_of-newest.result.now) (ap newest (sym c.parts-2.ensures.value) ∙ c.newest_of-newest.ensures)
 
 pub returns-clause-groups : goal.returns-clause-groups
 returns-clause-groups c =
-    let w = cut_by c.in_ok-left_out.left_out in
+    let w = cut_of c.args.left_out.now in
     let k = kept_of w (is_lasting c.args.moment) c.args.ledger.now c.items.result.now c.in_ok-items.items.items c.items.ensures.value c.in_ok-items.ensures in
     groups_are (is_lasting c.args.moment) (ledger_cut w c.args.ledger.now) c.deref.result.now c.deref-2.result.now (map group_fields c.in_ok-groups.groups.items)
-    (c.deref.ensures.value ∙ c.in_ok-issuers.ensures.set ∙ issuers_cut w c.args.ledger.now (map part_fields c.parts.result.now) c.parts.ensures.value) (c.deref-2.ensures.value ∙ k) c.in_ok-groups.ensures
-    ∙ ap (λ cut. rebased_groups (is_lasting c.args.moment) (ledger_cut cut c.args.ledger.now)) c.in_ok-left_out.ensures
+    (c.deref.ensures.value ∙ c.in_ok-issuers.ensures ∙ issuers_cut w c.args.ledger.now (map part_fields c.parts.result.now) c.parts.ensures.value) (c.deref-2.ensures.value ∙ k) c.in_ok-groups.ensures
 
 pub returns-clause-facts : goal.returns-clause-facts
 returns-clause-facts c =
-    let w = cut_by c.in_ok-left_out.left_out in
+    let w = cut_of c.args.left_out.now in
     let k = kept_of w (is_lasting c.args.moment) c.args.ledger.now c.items.result.now c.in_ok-items.items.items c.items.ensures.value c.in_ok-items.ensures in
     subst (λ gs. All IsGroup gs) (sym c.in_ok-groups.ensures)
     (groups_facts (ids c.deref-2.result.now) (ids (filter (λ i. is_some i.last) c.deref-2.result.now)) c.deref.result.now
@@ -103,26 +97,25 @@ returns-clause-facts c =
 
 pub returns-clause-pruned : goal.returns-clause-pruned
 returns-clause-pruned c =
-    let w = cut_by c.in_ok-left_out.left_out in
+    let w = cut_of c.args.left_out.now in
     let k = kept_of w (is_lasting c.args.moment) c.args.ledger.now c.items.result.now c.in_ok-items.items.items c.items.ensures.value c.in_ok-items.ensures in
     let n = counted w (is_lasting c.args.moment) c.args.ledger.now c.items-3.result.now c.items-2.result.now c.in_ok-items.items.items c.count_left-left.result
     c.items-3.ensures.value c.items-2.ensures.value k c.count_left-left.ensures in
     let l = c.len-2.ensures in
-    omega (arith, n.1, ap (λ cut. count_pruned (is_lasting c.args.moment) (ledger_cut cut c.args.ledger.now)) c.in_ok-left_out.ensures)
+    omega (arith, n.1)
 
 pub returns-clause-left : goal.returns-clause-left
 returns-clause-left c =
-    let w = cut_by c.in_ok-left_out.left_out in
+    let w = cut_of c.args.left_out.now in
     let k = kept_of w (is_lasting c.args.moment) c.args.ledger.now c.items.result.now c.in_ok-items.items.items c.items.ensures.value c.in_ok-items.ensures in
     let n = counted w (is_lasting c.args.moment) c.args.ledger.now c.items-3.result.now c.items-2.result.now c.in_ok-items.items.items c.count_left-left.result
     c.items-3.ensures.value c.items-2.ensures.value k c.count_left-left.ensures in
-    n.0 ∙ ap (λ cut. count_left cut c.args.ledger.now) c.in_ok-left_out.ensures
+    n.0
 
 pub returns-clause-next : goal.returns-clause-next
 returns-clause-next c =
-    let w = cut_by c.in_ok-left_out.left_out in
+    let w = cut_of c.args.left_out.now in
     let k = kept_of w (is_lasting c.args.moment) c.args.ledger.now c.items.result.now c.in_ok-items.items.items c.items.ensures.value c.in_ok-items.ensures in
-    let next = next_is w (is_lasting c.args.moment) c.args.ledger.now (part_fields c.newest_of-newest.result.now) (part_fields c.in_ok-part.part) c.in_ok-issuers.issuers.items
+    next_is w (is_lasting c.args.moment) c.args.ledger.now (part_fields c.newest_of-newest.result.now) (part_fields c.in_ok-part.part) c.in_ok-issuers.issuers.items
     c.in_ok-items.items.items c.in_ok-next.next (ap newest (sym c.parts-2.ensures.value) ∙ c.newest_of-newest.ensures) c.in_ok-part.ensures
-    (c.in_ok-issuers.ensures.set ∙ issuers_cut w c.args.ledger.now (map part_fields c.parts.result.now) c.parts.ensures.value) k c.in_ok-next.ensures in
-    λ trailer. next trailer ∙ ap (λ cut. rebased_ledger (is_lasting c.args.moment) (ledger_cut cut c.args.ledger.now) trailer) c.in_ok-left_out.ensures
+    (c.in_ok-issuers.ensures ∙ issuers_cut w c.args.ledger.now (map part_fields c.parts.result.now) c.parts.ensures.value) k c.in_ok-next.ensures

@@ -30,7 +30,7 @@ returns-clause-members g c = λ job e.
     let are : merged (judge_of c.args.context.now.parts.now) c.args.items.now (entries_of issuers ranges left) ≡ members_in (ledger_fields c.args.context.now.parts.now c.args.items.now) job =
     members_are c.args.context.now.parts.now c.args.items.now job (entries_of issuers ranges left)
     (are_read job (entries_of issuers ranges c.args.entries.items) (entries_of issuers ranges left) e
-    (IsPermutation-map fields c.args.entries.items left same)) c.requires.ascend in
+    (IsPermutation-map fields c.args.entries.items left same)) in
     record {
       items = c.in_ok-merged.ensures.merged.made ∙ ap (map as_item) are;
       settled = c.in_ok-merged.ensures.merged.settled ∙ ap (map (λ (m : Member). m.settled)) are;

@@ -4,22 +4,9 @@ use place_core::{By, PlaceCount, place_of, place_of_issuer};
 use std::alloc::{AllocError, Global};
 use std::marker::Model;
 
-/// What a rebase leaves out of a ledger.
-#[derive(Clone, Copy, Debug)]
-pub enum Leaving<'a> {
-    /// These issuers and their identities. They stand in any order, perhaps more than once, and perhaps in no part.
-    Issuers(&'a [Key32]),
-    /// What other places have than this one, by issuer or by identity, among so many.
-    OtherPlaces {
-        by: By,
-        count: PlaceCount,
-        place: u32,
-    },
-}
-
 /// A set of issuers.
 #[derive(Drop)]
-pub(crate) struct Issuers {
+pub struct Issuers {
     keys: Vec<Key32>,
 }
 
@@ -39,8 +26,8 @@ impl Issuers {
     ghost use Rattle.std.specs.Prelude.{◌≡◌, IfOk};
     ghost use Rattle.ident_core.specs.Sets.{has_key, key_set};
 
-    /// The set of these.
-    fn new(alloc: Global, issuers: &[Key32]) -> Result<Issuers, AllocError>
+    /// The set of these. They stand in any order, perhaps more than once.
+    pub fn new(alloc: Global, issuers: &[Key32]) -> Result<Issuers, AllocError>
         ensures { IfOk result (λ l. l ≡ key_set issuers.now) }
     {
         let mut keys = Vec::with_capacity(alloc, issuers.len())?;
@@ -57,10 +44,12 @@ impl Issuers {
     }
 }
 
-/// What a rebase leaves out, made ready to be asked of each issuer and identity.
+/// What a rebase leaves out of a ledger.
 #[derive(Drop)]
-pub(crate) enum LeftOut {
+pub enum LeftOut {
+    /// These issuers and their identities. Some are perhaps in no part.
     Issuers(Issuers),
+    /// What other places have than this one, by issuer or by identity, among so many.
     OtherPlaces {
         by: By,
         count: PlaceCount,
@@ -69,27 +58,13 @@ pub(crate) enum LeftOut {
 }
 
 impl LeftOut {
-    ghost use Rattle.std.specs.Prelude.{◌≡◌, IfOk};
+    ghost use Rattle.std.specs.Prelude.{◌≡◌};
     ghost use Rattle.place_core.specs.Cuts.{is_kept};
-    ghost use Rattle.publication_core.specs.Leavings.{cut_of, cut_by};
-
-    /// The issuers are put in order.
-    pub(crate) fn new(alloc: Global, leaving: &Leaving<'_>) -> Result<LeftOut, AllocError>
-        ensures { IfOk result (λ l. cut_by l ≡ cut_of leaving.now) }
-    {
-        match leaving {
-            Leaving::Issuers(issuers) => Ok(LeftOut::Issuers(Issuers::new(alloc, issuers)?)),
-            Leaving::OtherPlaces { by, count, place } => Ok(LeftOut::OtherPlaces {
-                by: *by,
-                count: *count,
-                place: *place,
-            }),
-        }
-    }
+    ghost use Rattle.publication_core.specs.LeftOut.{cut_of};
 
     /// Whether the issuer stays.
     pub(crate) fn takes(&self, issuer: &Key32) -> bool
-        ensures { result ≡ (cut_by self.now).takes issuer.now }
+        ensures { result ≡ (cut_of self.now).takes issuer.now }
     {
         match self {
             LeftOut::Issuers(issuers) => !issuers.has(issuer),
@@ -102,7 +77,7 @@ impl LeftOut {
 
     /// Whether the identity of an issuer that stays does.
     fn chooses(&self, id: &Identity) -> bool
-        ensures { result ≡ (cut_by self.now).chooses id.now }
+        ensures { result ≡ (cut_of self.now).chooses id.now }
     {
         match self {
             LeftOut::Issuers(_) => true,
@@ -115,7 +90,7 @@ impl LeftOut {
 
     /// Whether the identity stays.
     pub(crate) fn keeps(&self, id: &Identity) -> bool
-        ensures { result ≡ is_kept (cut_by self.now) id.now }
+        ensures { result ≡ is_kept (cut_of self.now) id.now }
     {
         self.takes(&id.issuer) && self.chooses(id)
     }
