@@ -135,14 +135,14 @@ class World:
         """The bytes of a file, or the first of them, and no more is read."""
         return self.fed(name)[:most]
 
-    def write(self, name: str, data: bytes) -> None:
-        """Writes a file: it is begun, and then come its bytes."""
+    def write(self, name: str, data: bytes, most: int = ALL) -> None:
+        """Writes a file: it is begun, and then come its bytes, by each write as many as may be."""
         fault = Failed(9, "write-fault", name)
         self.count("write", fault)
         self.files[name] = b""
-        for at in range(0, len(data), PIECE):
+        for at in range(0, len(data), most):
             self.count("write", fault)
-            self.files[name] += data[at : at + PIECE]
+            self.files[name] += data[at : at + most]
 
     # ---------- publishing ----------
     def snapshot(self, job_name: str, part: str, ledger: str, count: str) -> None:
@@ -198,7 +198,7 @@ class World:
         which, many = words_of.number(wanted), words_of.number(count, 1, 1000000)
         words_of.name(job)
         data, line = sample(which, many)
-        self.write(job, data)
+        self.write(job, data, PIECE)
         self.lines = line.splitlines()
 
     def gather(self, head: str, log: str, job: str, *pages: str) -> None:

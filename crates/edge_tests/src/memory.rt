@@ -144,27 +144,37 @@ impl Sink for Noting {
     }
 }
 
-// `append_all` and `write_all`: each call offers the next 4,096 bytes that aren't taken, or all that are left.
+// Each call offers all bytes that aren't taken (`append_all`), or the next 4,096 of them (`write_all`).
 #[test]
 fn offered_pieces(rt: HostRuntime) -> Result<(), Fail> {
     let bytes = [b'x'; 10_000];
     let rows = [
-        (0, 4096, [].as_slice()),
-        (4096, 4096, [4096].as_slice()),
-        (10_000, 4096, [4096, 4096, 1808].as_slice()),
-        (5000, 1000, [4096, 4000, 3000, 2000, 1000].as_slice()),
+        (0, 4096, [].as_slice(), [].as_slice()),
+        (4096, 4096, [4096].as_slice(), [4096].as_slice()),
+        (
+            10_000,
+            4096,
+            [10_000, 5904, 1808].as_slice(),
+            [4096, 4096, 1808].as_slice(),
+        ),
+        (
+            5000,
+            1000,
+            [5000, 4000, 3000, 2000, 1000].as_slice(),
+            [4096, 4000, 3000, 2000, 1000].as_slice(),
+        ),
     ];
-    for (len, most, want) in rows {
+    for (len, most, all, pieces) in rows {
         let mut noting = Noting {
             most,
             offered: Vec::new(rt.alloc()),
             faults: 0,
         };
         append_all(&mut noting, "A", &bytes[..len])?;
-        assert_eq!(rt; noting.offered.as_slice(), want, "{len} bytes");
+        assert_eq!(rt; noting.offered.as_slice(), all, "{len} bytes");
         noting.offered.clear();
         write_all(&mut noting, &bytes[..len])?;
-        assert_eq!(rt; noting.offered.as_slice(), want, "{len} bytes");
+        assert_eq!(rt; noting.offered.as_slice(), pieces, "{len} bytes");
     }
     Ok(())
 }

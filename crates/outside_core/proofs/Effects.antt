@@ -1,5 +1,5 @@
 -- Reads of a depot, one behind another.
-use Rattle.std.proofs.Common.{◌≡◌, ℕ, List, [], ◌∷◌, ◌++◌, inl, inr, Option, None, Some, ap, subst, ◌∙◌, arith}
+use Rattle.std.proofs.Common.{ℕ, List, [], ◌∷◌, ◌++◌, inl, inr, Option, None, Some, ap, subst, ◌∙◌, arith}
 use Rattle.std.specs.Option.{option_map}
 use Rattle.outside_core.specs.declared.depot.Depot.{Ghosts}
 use Rattle.outside_core.specs.Files.{Files, IsMissing}

@@ -3,10 +3,9 @@ ghost use Rattle.outside_core.specs.Files.{extending, Torn, KeepsOthers, Rose};
 ghost use Rattle.outside_core.specs.Effects.{OnlyWrites};
 
 use crate::depot::{Depot, Failed};
-use crate::piece::next_piece;
 
-/// Adds all the bytes behind what the name holds. Each call of the depot offers the next 4,096 that aren't taken, or
-/// all that are left; without bytes there is no call. After `Failed` some front of the bytes stands there.
+/// Adds all the bytes behind what the name holds. Each call of the depot offers all that aren't taken; without bytes
+/// there is no call. After `Failed` some front of the bytes stands there.
 pub fn append_all<D: Depot>(depot: &mut D, name: &str, bytes: &[u8]) -> Result<(), Failed>
     ensures ok { OnOk result (D.files depot.new ≡ extending (D.files depot.old) name.now bytes.now) }
     ensures err { OnErr result (Torn (D.files depot.old) (D.files depot.new) name.now bytes.now) }
@@ -16,7 +15,7 @@ pub fn append_all<D: Depot>(depot: &mut D, name: &str, bytes: &[u8]) -> Result<(
 {
     let mut done = 0;
     while done < bytes.len() {
-        done += depot.append(name, next_piece(&bytes[done..]))?;
+        done += depot.append(name, &bytes[done..])?;
     }
     Ok(())
 }
