@@ -15,7 +15,7 @@ use Rattle.gather_core.specs.declared.page.PageEntry.{PageEntry}
 use Rattle.gather_core.specs.declared.texts.EntryTexts.{EntryTexts}
 use Rattle.gather_core.specs.Pages.{PageFields, fields_of, EntryFits}
 use Rattle.gather_core.specs.Raw.{of_log, piece_limits, raw_job, opened_text}
-use Rattle.gather_core.specs.Opened.{Counts, Holds}
+use Rattle.gather_core.specs.Opened.{Counts, Holds, records_of}
 use Rattle.gather_core.proofs.Joining.{spelling-opened}
 
 -- ---- of a page
@@ -39,7 +39,7 @@ all-fit : (log : List ℕ) (entries : List PageEntry) → length log ≡ 32 → 
 all-fit log entries key fits = all-fit-by log (map fields_of entries) key fits
 
 pub held-page : (t : EntryTexts) (log : List ℕ) (entries : List PageEntry) (n : ℕ) → length log ≡ 32 → All EntryFits (map fields_of entries)
-    → t.text.items ≡ flat_map entry_record (texts log (take n entries)) → take n entries ≡ entries → t.count ≡ length entries → Holds t (texts log entries)
+    → records_of t ≡ flat_map entry_record (texts log (take n entries)) → take n entries ≡ entries → t.count ≡ length entries → Holds t (texts log entries)
 held-page t log entries n key fits text all count = record {
   text = text ∙ ap (λ (l : List PageEntry). flat_map entry_record (texts log l)) all;
   count = count ∙ sym (length-texts log entries);
@@ -70,8 +70,8 @@ no_crls [] few = refl
 no_crls (c ∷ cs) few = absurd (omega (arith, few))
 
 -- the entries stand between the opening with the ranges and the end
-pub piece-cut : (bytes : List ℕ) (n : Tally) (j : JobContents) → bytes ≡ spelling j → FitsJob piece_limits j → n.ranges ≡ length j.ranges
-    → (24 + 49 * n.ranges + 1 ≤ length bytes) × (drop (24 + 49 * n.ranges) (take (length bytes - 1) bytes) ≡ flat_map entry_record j.entries)
+piece-cut : (bytes : List ℕ) (n : Tally) (j : JobContents) → bytes ≡ spelling j → FitsJob piece_limits j → n.ranges ≡ length j.ranges
+    → drop (24 + 49 * n.ranges) (take (length bytes - 1) bytes) ≡ flat_map entry_record j.entries
 piece-cut bytes n j is fits count =
     let O : List ℕ = opening_text j.epoch j.moment in
     let R : List ℕ = flat_map range_record j.ranges in
@@ -81,20 +81,16 @@ piece-cut bytes n j is fits count =
     let all : bytes ≡ ((O ++ R) ++ E) ++ to_be_bytes w8 0 = is ∙ spelling-opened j ∙ ap (λ (l : List ℕ). l ++ to_be_bytes w8 0) opened in
     let before : 24 + 49 * n.ranges ≡ length (O ++ R) = omega (arith, count, length-append O R, ranges-length None j.ranges fits.ranges) in
     let size : length bytes ≡ length ((O ++ R) ++ E) + 1 = ap (λ (l : List ℕ). length l) all ∙ length-append ((O ++ R) ++ E) (to_be_bytes w8 0) in
-    let last : length bytes - 1 ≡ length ((O ++ R) ++ E) = omega (arith, size) in (
-      omega (arith, size, before, length-append (O ++ R) E),
-      ap (λ (k : ℕ). drop (24 + 49 * n.ranges) (take k bytes)) last
-          ∙ ap (λ (l : List ℕ). drop (24 + 49 * n.ranges) (take (length ((O ++ R) ++ E)) l)) all
-          ∙ ap (drop (24 + 49 * n.ranges)) (take-append_seam ((O ++ R) ++ E) (to_be_bytes w8 0))
-          ∙ ap (λ (k : ℕ). drop k ((O ++ R) ++ E)) before
-          ∙ drop-append_seam (O ++ R) E,
-    )
-
-pub piece-room : (bytes : List ℕ) (n : Tally) → Counts piece_limits bytes (Ok n) → 24 + 49 * n.ranges + 1 ≤ length bytes
-piece-room bytes n (j, raw, is, fits, epoch, ranges, count) = (piece-cut bytes n j is fits ranges).0
+    let last : length bytes - 1 ≡ length ((O ++ R) ++ E) = omega (arith, size) in
+    ap (λ (k : ℕ). drop (24 + 49 * n.ranges) (take k bytes)) last
+    ∙ ap (λ (l : List ℕ). drop (24 + 49 * n.ranges) (take (length ((O ++ R) ++ E)) l)) all
+    ∙ ap (drop (24 + 49 * n.ranges)) (take-append_seam ((O ++ R) ++ E) (to_be_bytes w8 0))
+    ∙ ap (λ (k : ℕ). drop k ((O ++ R) ++ E)) before
+    ∙ drop-append_seam (O ++ R) E
 
 pub piece-held : (bytes : List ℕ) (n : Tally) (t : EntryTexts) → Counts piece_limits bytes (Ok n)
-    → t.text.items ≡ drop (24 + 49 * n.ranges) (take (length bytes - 1) bytes) → t.count ≡ n.entries
+    → t.start ≡ 24 + 49 * n.ranges → t.text.items ≡ take (length bytes - 1) bytes → t.count ≡ n.entries
     → (j : JobContents) × (raw_job piece_limits bytes ≡ Ok j) × (n.epoch ≡ j.epoch) × Holds t j.entries
-piece-held bytes n t (j, raw, is, fits, epoch, ranges, count) text same =
-    (j, raw, epoch, record { text = text ∙ (piece-cut bytes n j is fits ranges).1; count = same ∙ count; fit = fits.entries })
+piece-held bytes n t (j, raw, is, fits, epoch, ranges, count) start popped same =
+    let text : records_of t ≡ flat_map entry_record j.entries = rw (start, popped) (piece-cut bytes n j is fits ranges) in
+    (j, raw, epoch, record { text = text; count = same ∙ count; fit = fits.entries })

@@ -1,5 +1,5 @@
 -- What an open job stands for.
-use Rattle.std.specs.Prelude.{◌≡◌, ℕ, List, length, flat_map, All, Result, Ok, Err}
+use Rattle.std.specs.Prelude.{◌≡◌, ℕ, List, length, drop, flat_map, All, Result, Ok, Err}
 use Rattle.job_core.specs.declared.bounds.TheConstants.Limits as limits
 use Rattle.job_core.specs.declared.bounds.Limits.{Limits}
 use Rattle.job_core.specs.declared.fault.JobFault.{JobFault}
@@ -30,9 +30,13 @@ pub record Opens (o : OpenJob) (j : JobContents) : Type 0 where
 abbrev pub count_of : EntryTexts → ℕ
 count_of t = t.count
 
--- The text is that of the entries, one behind the other; it counts them; and each fits its record.
+-- what stands from its place on
+abbrev pub records_of : EntryTexts → List ℕ
+records_of t = drop t.start t.text.items
+
+-- Its records are those of the entries, one behind the other; it counts them; and each fits its record.
 pub record Holds (t : EntryTexts) (entries : List EntryText) : Type 0 where
-  pub text : t.text.items ≡ flat_map entry_record entries
+  pub text : records_of t ≡ flat_map entry_record entries
   pub count : t.count ≡ length entries
   pub fit : All FitsEntry entries
 

@@ -69,8 +69,8 @@ impl OpenJob {
         ensures { (j : JobContents) (entries : List EntryText) → Opens self.old j → Holds more.now entries
             → OnOk result (Opens self.new (with_entries j entries)) }
     {
-        put_bytes(&mut self.text, &more.text)?;
-        self.entries += more.count;
+        put_bytes(&mut self.text, more.records())?;
+        self.entries += more.count();
         Ok(())
     }
 

@@ -1,10 +1,10 @@
 //! Entries as they stand, to be put behind those of a job.
 
-ghost use Rattle.std.specs.Prelude.{◌≡◌, ◌≢◌, ◌+◌, ◌-◌, ◌++◌, ◌≤◌, length, take, drop, map, All};
+ghost use Rattle.std.specs.Prelude.{◌≡◌, ◌≢◌, ◌++◌, ◌≤◌, length, map, All};
 ghost use Rattle.std.specs.Prelude.{Ok, Err, IfOk, IfErr, OnOk};
 ghost use Rattle.job_core.specs.JobText.{JobContents, entry_record};
 ghost use Rattle.gather_core.specs.Pages.{EntryFits, fields_of};
-ghost use Rattle.gather_core.specs.Opened.{Holds};
+ghost use Rattle.gather_core.specs.Opened.{Holds, records_of};
 ghost use Rattle.gather_core.specs.Raw.{of_log, piece_limits, raw_job};
 
 use crate::counting::count_records;
@@ -18,11 +18,12 @@ const OPENING: usize = 24;
 
 const RANGE: usize = 49;
 
-/// The records of entries, one behind the other, and how many they are.
+/// The records of entries, one behind the other from a place of the text on, and how many they are.
 #[derive(Debug, Drop)]
 pub struct EntryTexts {
-    pub(crate) text: Vec<u8>,
-    pub(crate) count: u64,
+    text: Vec<u8>,
+    start: usize,
+    count: u64,
 }
 
 /// A job without CRLs: its epoch and its entries, as they stand.
@@ -63,8 +64,16 @@ impl EntryTexts {
         }
         Ok(EntryTexts {
             text,
+            start: 0,
             count: entries.len() as u64,
         })
+    }
+
+    /// Their records.
+    pub(crate) fn records(&self) -> &[u8]
+        ensures { result.now ≡ records_of self.now }
+    {
+        self.text.get(self.start..).unwrap_or(&[])
     }
 
     /// How many there are.
@@ -85,33 +94,22 @@ fn piece_limits() -> Limits
     }
 }
 
-/// The bytes from a place on, without the last.
-fn but_last(bytes: &[u8], start: usize) -> &[u8]
-    requires { start + 1 ≤ length bytes.now }
-    ensures { result.now ≡ drop start (take (length bytes.now - 1) bytes.now) }
-{
-    let rest = &bytes[..bytes.len() - 1];
-    &rest[start..]
-}
-
 /// The piece that the bytes are, a job without CRLs; or the first fault in their order, as `OpenJob::new` answers it.
-pub fn read_piece(alloc: Global, bytes: &[u8]) -> Result<Piece, JobFault>
-    ensures ok { IfOk result (λ p. (j : JobContents) × (raw_job piece_limits bytes.now ≡ Ok j)
+pub fn read_piece(alloc: Global, bytes: Vec<u8>) -> Result<Piece, JobFault>
+    ensures ok { IfOk result (λ p. (j : JobContents) × (raw_job piece_limits bytes.items ≡ Ok j)
         × (p.epoch ≡ j.epoch) × Holds p.entries j.entries) }
-    ensures err { IfErr result (λ e. e ≢ JobFault.NoMemory → raw_job piece_limits bytes.now ≡ Err e) }
+    ensures err { IfErr result (λ e. e ≢ JobFault.NoMemory → raw_job piece_limits bytes.items ≡ Err e) }
     ensures no_read { IfErr result (λ e. e ≢ JobFault.ReadFault) }
 {
-    let tally = count_records(alloc, bytes, piece_limits())?;
-    let start = OPENING + RANGE * tally.ranges as usize;
-    let mut text = Vec::new(alloc);
-    match put_bytes(&mut text, but_last(bytes, start)) {
-        Ok(()) => Ok(Piece {
-            epoch: tally.epoch,
-            entries: EntryTexts {
-                text,
-                count: tally.entries,
-            },
-        }),
-        Err(NoMemory) => Err(JobFault::NoMemory),
-    }
+    let tally = count_records(alloc, &bytes, piece_limits())?;
+    let mut text = bytes;
+    let _ = text.pop();
+    Ok(Piece {
+        epoch: tally.epoch,
+        entries: EntryTexts {
+            text,
+            start: OPENING + RANGE * tally.ranges as usize,
+            count: tally.entries,
+        },
+    })
 }

@@ -8,6 +8,6 @@ put_entry-requires c = fits-at c.args.entries.now c.loop-entry.entry-index c.ent
 
 pub returns : goal.returns
 returns c =
-    held-page (record { text = c.loop-entry.text; count = _ }) c.args.log.now c.args.entries.now c.loop-entry.entry-index
+    held-page (record { text = c.loop-entry.text; start = 0; count = _ }) c.args.log.now c.args.entries.now c.loop-entry.entry-index
     (first_of (omega (arith, c.bytes.ensures), assumption c.bytes.ensures, grind (arith, c.bytes.ensures))) c.requires c.loop-entry.invariant
     (take_all c.loop-entry.entry-index c.args.entries.now (omega (arith, c.loop-entry-test.false))) refl
