@@ -111,7 +111,7 @@ fn piece_entries<D: Depot>(
     ensures only_reads { OnlyReads D.Depot depot.old depot.new }
 {
     let bytes = read_up_to(alloc, depot, name, usize::MAX)?;
-    let piece = read_piece(alloc, &bytes)?;
+    let piece = read_piece(alloc, bytes)?;
     if piece.epoch != epoch {
         let given = piece.epoch;
         return Err(FileFault::OtherEpoch { held: epoch, given });

@@ -21,16 +21,16 @@ returns-in_err-piece-clause-refused g c =
     rw (p.1, p.2)
     (piece_refused (g.D.Depot.files c.args.depot.now) (WhichFailed g.D.Depot c.args.depot.now _) c.args.name.now c.in_ok-bytes.bytes.items c.args.epoch c.in_ok-bytes.bytes
     (all_of (g.D.Depot.files c.args.depot.now) c.args.name.now (Ok c.in_ok-bytes.bytes) c.in_ok-bytes.ensures.bytes) c.in_ok-bytes.ensures.unblamed c.in_err-piece.field-0.0
-    (rw c.deref.ensures.value at c.in_err-piece.ensures.err))
+    c.in_err-piece.ensures.err)
 
 pub returns-then-piece-epoch-clause-refused : goal.returns-then-piece-epoch-clause-refused
 returns-then-piece-epoch-clause-refused g c =
     piece_other (g.D.Depot.files c.args.depot.now) (WhichFailed g.D.Depot c.args.depot.now _) c.args.name.now c.in_ok-bytes.bytes.items c.args.epoch c.in_ok-bytes.bytes
     (all_of (g.D.Depot.files c.args.depot.now) c.args.name.now (Ok c.in_ok-bytes.bytes) c.in_ok-bytes.ensures.bytes) c.in_ok-bytes.ensures.unblamed c.in_ok-piece.piece _
-    (rw c.deref.ensures.value at c.in_ok-piece.ensures.ok) refl (λ same. c.if-piece-epoch.true (sym same))
+    c.in_ok-piece.ensures.ok refl (λ same. c.if-piece-epoch.true (sym same))
 
 pub returns-clause-held : goal.returns-clause-held
 returns-clause-held g c =
     piece_held (g.D.Depot.files c.args.depot.now) (WhichFailed g.D.Depot c.args.depot.now _) c.args.name.now c.in_ok-bytes.bytes.items c.args.epoch c.in_ok-bytes.bytes
     (all_of (g.D.Depot.files c.args.depot.now) c.args.name.now (Ok c.in_ok-bytes.bytes) c.in_ok-bytes.ensures.bytes) c.in_ok-bytes.ensures.unblamed c.in_ok-piece.piece
-    c.in_ok-piece.piece.entries (rw c.deref.ensures.value at c.in_ok-piece.ensures.ok) refl (sym c.if-piece-epoch.false)
+    c.in_ok-piece.piece.entries c.in_ok-piece.ensures.ok refl (sym c.if-piece-epoch.false)
