@@ -43,8 +43,14 @@ from scenario_readers import (
 from scenario_stage import ALL, KINDS, Files
 from scenario_words import Usage
 
-# The most bytes that are read, written or printed by one call.
+# The most bytes that are read or printed by one call.
 PIECE = 4096
+
+# The most bytes that `sample` writes by one call, behind its whole pieces of CRLs.
+ROOM = 65_536
+
+# How many bytes the record of an entry of `sample` has.
+SAMPLED = 108
 
 
 class Failed(Exception):
@@ -135,14 +141,14 @@ class World:
         """The bytes of a file, or the first of them, and no more is read."""
         return self.fed(name)[:most]
 
-    def write(self, name: str, data: bytes, most: int = ALL) -> None:
-        """Writes a file: it is begun, and then come its bytes, by each write as many as may be."""
+    def write(self, name: str, *pieces: bytes) -> None:
+        """Writes a file: it is begun, and then comes each piece that has bytes."""
         fault = Failed(9, "write-fault", name)
         self.count("write", fault)
         self.files[name] = b""
-        for at in range(0, len(data), most):
+        for piece in filter(None, pieces):
             self.count("write", fault)
-            self.files[name] += data[at : at + most]
+            self.files[name] += piece
 
     # ---------- publishing ----------
     def snapshot(self, job_name: str, part: str, ledger: str, count: str) -> None:
@@ -198,7 +204,8 @@ class World:
         which, many = words_of.number(wanted), words_of.number(count, 1, 1000000)
         words_of.name(job)
         data, line = sample(which, many)
-        self.write(job, data, PIECE)
+        front = (len(data) - 1 - SAMPLED * many) // PIECE * PIECE
+        self.write(job, data[:front], *(data[at : at + ROOM] for at in range(front, len(data), ROOM)))
         self.lines = line.splitlines()
 
     def gather(self, head: str, log: str, job: str, *pages: str) -> None:
