@@ -1,5 +1,4 @@
-ghost use Rattle.std.specs.Prelude.{◌≡◌, IfOk, filter, filter_map, not};
-ghost use Rattle.std.specs.List.{list_any};
+ghost use Rattle.std.specs.Prelude.{◌≡◌, IfOk, filter, not};
 ghost use Rattle.std.specs.List.Sorted.{IsStrictlySortedBy};
 ghost use Rattle.ident_core.specs.Order.{octets_cmp};
 ghost use Rattle.ident_core.specs.Sets.{has_key};
@@ -46,20 +45,6 @@ fn stale_issuer_of(crl: &JobCrl, moment: u64) -> Option<Key32>
     }
 }
 
-fn issuers_of(alloc: Global, crls: &[JobCrl]) -> Result<Vec<Key32>, AllocError>
-    ensures { IfOk result (λ keys. keys.items ≡ filter_map (λ c. issuer_if (facts_of_crl c)) crls.now) }
-{
-    crls.iter().filter_map(|c| issuer_of(c)).collect(alloc)
-}
-
-fn stale_issuers_of(alloc: Global, crls: &[JobCrl], moment: u64) -> Result<Vec<Key32>, AllocError>
-    ensures { IfOk result (λ keys. keys.items ≡ filter_map (λ c. stale_issuer_if moment (facts_of_crl c)) crls.now) }
-{
-    crls.iter()
-        .filter_map(|c| stale_issuer_of(c, moment))
-        .collect(alloc)
-}
-
 /// The keys that aren't among others.
 fn without(alloc: Global, keys: &[Key32], others: &[Key32]) -> Result<Vec<Key32>, AllocError>
     requires { IsStrictlySortedBy octets_cmp others.now }
@@ -78,9 +63,17 @@ fn without(alloc: Global, keys: &[Key32], others: &[Key32]) -> Result<Vec<Key32>
 pub(crate) fn enrolled(alloc: Global, job: &Job) -> Result<Vec<Key32>, AllocError>
     ensures { IfOk result (λ keys. keys.items ≡ enrolled_of (facts_of_job job.now)) }
 {
-    let mut stale = stale_issuers_of(alloc, &job.crls, job.moment)?;
+    let mut stale = job
+        .crls
+        .iter()
+        .filter_map(|c| stale_issuer_of(c, job.moment))
+        .collect::<Vec<Key32>>(alloc)?;
     sort_keys_once(&mut stale);
-    let mut keys = issuers_of(alloc, &job.crls)?;
+    let mut keys = job
+        .crls
+        .iter()
+        .filter_map(|c| issuer_of(c))
+        .collect::<Vec<Key32>>(alloc)?;
     sort_keys_once(&mut keys);
     let left = without(alloc, &keys, &stale)?;
     Ok(left)
@@ -106,22 +99,15 @@ fn is_stale_crl_of(crl: &JobCrl, issuer: &Key32, moment: u64) -> bool
     }
 }
 
-fn has_crl(crls: &[JobCrl], issuer: &Key32) -> bool
-    ensures { result ≡ list_any (λ c. is_of issuer.now (facts_of_crl c)) crls.now }
-{
-    crls.iter().any(|c| is_crl_of(c, issuer))
-}
-
-fn has_stale_crl(crls: &[JobCrl], issuer: &Key32, moment: u64) -> bool
-    ensures { result ≡ list_any (λ c. is_stale_of moment issuer.now (facts_of_crl c)) crls.now }
-{
-    crls.iter().any(|c| is_stale_crl_of(c, issuer, moment))
-}
-
 /// Whether the job enrolls the issuer: it has a CRL of it that is accepted, and none of them is out of date. It takes
 /// no memory, and looks at each CRL of the job.
 pub fn is_enrolled(job: &Job, issuer: &Key32) -> bool
     ensures { result ≡ is_enrolled_by (facts_of_job job.now) issuer.now }
 {
-    has_crl(&job.crls, issuer) && !has_stale_crl(&job.crls, issuer, job.moment)
+    let has_one = job.crls.iter().any(|c| is_crl_of(c, issuer));
+    has_one
+        && !job
+            .crls
+            .iter()
+            .any(|c| is_stale_crl_of(c, issuer, job.moment))
 }

@@ -1,6 +1,8 @@
-use Rattle.std.specs.List.{filter_map}
 use Rattle.std.specs.List.Sorted.{IsStrictlySortedBy}
-use Rattle.std.proofs.Common.{◌∙◌, ap, refl, sym, subst}
+use Rattle.std.proofs.Common.{◌∙◌, ap, refl, sym, subst, rules, tests}
+use Rattle.std.proofs.lemmas.Iterator.{YieldsList-from_slice, items_from_collect}
+use Rattle.std.proofs.lemmas.Iterator.Consumers.{YieldsList-from_filter_map}
+use Rattle.std.proofs.lemmas.Result.{IfOk-at_ok}
 use Rattle.ident_core.specs.Order.{octets_cmp}
 use Rattle.ident_core.specs.Sets.{key_set}
 use Rattle.ident_core.proofs.Sets.{keys_are}
@@ -11,10 +13,15 @@ use Rattle.universe_core.proofs.enrolling.enrolled.Goals as goal
 
 pub returns : goal.returns
 returns c =
-    enrolled_from (facts_of_job c.args.job.now) c.args.job.now.crls.items c.deref-3.result.now c.deref-4.result.now c.in_ok-left.left.items refl
-    (c.deref-3.ensures.value ∙ c.sort_keys_once-2.ensures ∙ ap key_set (c.in_ok-keys.ensures ∙ ap (filter_map (λ d. issuer_if (facts_of_crl d))) c.deref-2.ensures.value))
-    (c.deref-4.ensures.value ∙ c.sort_keys_once.ensures ∙ ap key_set (c.in_ok-stale.ensures ∙ ap (filter_map (λ d. stale_issuer_if c.args.job.now.moment (facts_of_crl d))) c.deref.ensures.value))
-    c.in_ok-left.ensures
+    let crls = c.args.job.now.crls.items in
+    let keys = IfOk-at_ok _ c.in_ok-keys.was
+    (items_from_collect _ c.collect-2.ensures.ran
+    (YieldsList-from_filter_map _ (λ d. issuer_if (facts_of_crl d)) (YieldsList-from_slice crls cc) c.filter_map-2.ensures.closure (λ x r q k. search (rules, tests)))) in
+    let stale = IfOk-at_ok _ c.in_ok-stale.was
+    (items_from_collect _ c.collect.ensures.ran
+    (YieldsList-from_filter_map _ (λ d. stale_issuer_if c.args.job.now.moment (facts_of_crl d)) (YieldsList-from_slice crls cc) c.filter_map.ensures.closure (λ x r q k. search (rules, tests)))) in
+    enrolled_from (facts_of_job c.args.job.now) crls c.deref-3.result.now c.deref-4.result.now c.in_ok-left.left.items refl
+    (c.deref-3.ensures.value ∙ c.sort_keys_once-2.ensures ∙ ap key_set keys) (c.deref-4.ensures.value ∙ c.sort_keys_once.ensures ∙ ap key_set stale) c.in_ok-left.ensures
 
 pub without-requires : goal.without-requires
 without-requires c =
