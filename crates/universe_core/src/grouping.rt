@@ -15,18 +15,6 @@ use rayon::prelude::*;
 use std::alloc::{AllocError, Global};
 use std::thread::Threads;
 
-fn ids_of(alloc: Global, items: &[LedgerItem]) -> Result<Vec<Identity>, AllocError>
-    ensures { IfOk result (λ out. out.items ≡ ids items.now) }
-{
-    items.iter().map(|x| x.id).collect(alloc)
-}
-
-fn copied_flags(alloc: Global, flags: &[bool]) -> Result<Vec<bool>, AllocError>
-    ensures { IfOk result (λ out. out.items ≡ flags.now) }
-{
-    flags.iter().copied().collect(alloc)
-}
-
 /// The group of an issuer.
 fn group(
     alloc: Global,
@@ -40,12 +28,13 @@ fn group(
         → IfOk result (λ g. group_fields g ≡ group_with h (ids items.now) issuer.now) }
 {
     let run = run_of(items, issuer);
-    let universe = ids_of(alloc, &items[run.start..run.end])?;
-    let flags = copied_flags(alloc, &revoked[run.start..run.end])?;
+    let own = &items[run.start..run.end];
+    let universe = own.iter().map(|x| x.id).collect::<Vec<Identity>>(alloc)?;
+    let flags = &revoked[run.start..run.end];
     Ok(Group {
         issuer: *issuer,
         universe,
-        revoked: flags,
+        revoked: flags.iter().copied().collect::<Vec<bool>>(alloc)?,
     })
 }
 
