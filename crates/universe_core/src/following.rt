@@ -1,16 +1,14 @@
 //! What a job must be to follow the parts of a chain, and what follows them.
 
 ghost use Rattle.std.specs.Prelude.{◌≡◌, ◌≤◌, length, map, IfErr, IfOk, None, OnOk, Some};
-ghost use Rattle.std.specs.Option.{option_map};
-ghost use Rattle.ident_core.specs.Coverage.{RangesFit, first_outside};
+ghost use Rattle.ident_core.specs.Coverage.{RangesFit};
 ghost use Rattle.job_core.specs.declared.bounds.TheConstants.Limits.{PUBLISHED};
 ghost use Rattle.job_core.specs.JobFields.{fields_of_job, crl_view};
 ghost use Rattle.ledger_core.specs.LedgerFields.{IsLedger, part_fields, newest};
 ghost use Rattle.universe_core.specs.Jobs.{facts_of_job};
 ghost use Rattle.universe_core.specs.Members.{first_part, unsealed};
-ghost use Rattle.universe_core.specs.Step.{bad_crl_at, bad_crl_from, old_epoch, shrunk, chain_full, head_after};
+ghost use Rattle.universe_core.specs.Step.{bad_crl_from, old_epoch, shrunk, chain_full, head_after};
 ghost use Rattle.universe_core.specs.Following.{early};
-ghost use Rattle.universe_core.specs.declared.fault.AdmitFault.TheVariants as faults;
 
 use crate::fault::AdmitFault;
 use ident_core::{Head, Kind, MAX_PARTS, Range, shrinks};
@@ -19,18 +17,6 @@ use ledger_core::{Draft, LedgerItem, LedgerPart};
 use octets_core::Key32;
 use std::alloc::{AllocError, Global};
 
-fn fault_at(place: u32, crl: &JobCrl) -> Option<AdmitFault>
-    ensures { result ≡ bad_crl_at place (crl_view crl.now).outcome }
-{
-    match &crl.outcome {
-        Ok(_) => None,
-        Err(fault) => Some(AdmitFault::BadCrl {
-            place,
-            fault: *fault,
-        }),
-    }
-}
-
 /// What refuses a job of these CRLs for the first one that isn't accepted, if there is one.
 pub fn bad_crl(crls: &[JobCrl]) -> Option<AdmitFault>
     requires { length crls.now ≤ PUBLISHED.crls }
@@ -38,23 +24,13 @@ pub fn bad_crl(crls: &[JobCrl]) -> Option<AdmitFault>
 {
     let mut place = 0;
     for crl in crls {
-        let fault = fault_at(place, crl);
-        if fault.is_some() {
-            return fault;
+        if let Err(fault) = &crl.outcome {
+            return Some(AdmitFault::BadCrl {
+                place,
+                fault: *fault,
+            });
         }
         place += 1;
-    }
-    None
-}
-
-fn old_epoch_of(part: &LedgerPart, epoch: u64) -> Option<AdmitFault>
-    ensures { result ≡ old_epoch (Some (part_fields part.now)) epoch }
-{
-    if epoch <= part.epoch {
-        return Some(AdmitFault::OldEpoch {
-            held: part.epoch,
-            given: epoch,
-        });
     }
     None
 }
@@ -64,16 +40,15 @@ fn old_epoch_in(parts: &[LedgerPart], epoch: u64) -> Option<AdmitFault>
     ensures { result ≡ old_epoch (newest (map part_fields parts.now)) epoch }
 {
     match parts.last() {
-        Some(part) => old_epoch_of(part, epoch),
-        None => None,
-    }
-}
-
-fn shrunk_of(part: &LedgerPart, ranges: &[Range]) -> Option<AdmitFault>
-    ensures { result ≡ option_map faults.CoverageShrinks (first_outside part.now.ranges.items ranges.now) }
-{
-    match shrinks(&part.ranges, ranges) {
-        Some(log) => Some(AdmitFault::CoverageShrinks { log }),
+        Some(part) => {
+            if epoch <= part.epoch {
+                return Some(AdmitFault::OldEpoch {
+                    held: part.epoch,
+                    given: epoch,
+                });
+            }
+            None
+        }
         None => None,
     }
 }
@@ -83,7 +58,10 @@ fn shrunk_in(parts: &[LedgerPart], job: &Job) -> Option<AdmitFault>
     ensures { result ≡ shrunk (newest (map part_fields parts.now)) (facts_of_job job.now) }
 {
     match parts.last() {
-        Some(part) => shrunk_of(part, &job.ranges),
+        Some(part) => match shrinks(&part.ranges, &job.ranges) {
+            Some(log) => Some(AdmitFault::CoverageShrinks { log }),
+            None => None,
+        },
         None => None,
     }
 }

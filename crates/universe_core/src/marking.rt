@@ -206,12 +206,6 @@ fn mark_all(
     Ok(())
 }
 
-fn unmarked(alloc: Global, members: &[LedgerItem]) -> Result<Vec<bool>, AllocError>
-    ensures { IfOk result (λ flags. flags.items ≡ map (λ m. false) members.now) }
-{
-    members.iter().map(|_| false).collect(alloc)
-}
-
 /// Which of ascending members CRLs hold.
 pub(crate) fn listed_now(
     alloc: Global,
@@ -221,7 +215,7 @@ pub(crate) fn listed_now(
     requires sorted { IsStrictlySortedBy identity_cmp (ids members.now) }
     ensures { IfOk result (λ flags. flags.items ≡ map (λ x. list_any (λ c. holds (facts_of_crl c) x) crls.now) (ids members.now)) }
 {
-    let mut flags = unmarked(alloc, members)?;
+    let mut flags = members.iter().map(|_| false).collect::<Vec<bool>>(alloc)?;
     mark_all(alloc, &mut flags, members, crls)?;
     Ok(flags)
 }
