@@ -1,4 +1,5 @@
 -- What an entry is by its job alone, and what is read and counted of it.
+use mir.Val.{bool_byte}
 use Rattle.std.specs.Bool.{then_some}
 use Rattle.std.specs.List.{filter_map, cons_option, count_by}
 use Rattle.std.specs.Option.{option_map, option_map_or}
@@ -73,6 +74,10 @@ pub count_more : {A : Type 0} (p : A → Bool) (xs : List A) (i : ℕ) (x : A) (
     → n ≡ count_by p (take i xs) → b ≡ p x → m ≡ n + one_if b → m ≡ count_by p (take (i + 1) xs)
 count_more p xs i x n m true l e a b c = c ∙ ap (λ k. k + 1) a ∙ sym (count_by_more_yes p xs i x l (ap p (sym e) ∙ sym b))
 count_more p xs i x n m false l e a b c = let k = count_by_more_no p xs i x l (ap p (sym e) ∙ sym b) in omega arith
+
+pub one_is : (b : Bool) → bool_byte b ≡ one_if b
+one_is true = refl
+one_is false = refl
 
 -- what is kept beside what was
 pub kept_more : {A B : Type 0} (f : A → B) (old : List A) (o : Option A) (x : Option B) → option_map f o ≡ x → map f (old ++ cons_option o []) ≡ map f old ++ cons_option x []

@@ -1,4 +1,4 @@
-ghost use Rattle.std.specs.Prelude.{◌≡◌, ◌≤◌, ◌+◌, ◌++◌, ◌&&◌, ◌||◌, IfOk, map, not, Bool, length, is_some};
+ghost use Rattle.std.specs.Prelude.{◌≡◌, ◌≤◌, IfOk, map, Bool, length};
 ghost use Rattle.std.specs.List.{count_by};
 ghost use Rattle.std.specs.List.Sorted.{IsStrictlySortedBy};
 ghost use Rattle.std.specs.Thread.{IsSync};
@@ -11,15 +11,13 @@ ghost use Rattle.universe_core.specs.Jobs.{JobFacts};
 ghost use Rattle.universe_core.specs.History.{accepted_with, revoked as revoked_of};
 ghost use Rattle.universe_core.specs.Ledgers.{past_in};
 ghost use Rattle.universe_core.specs.Members.{AreOf, next_of};
-ghost use Rattle.universe_core.specs.Reading.{one_if};
 
 use crate::marking::listed_now;
-use crate::threading::{FEW, Threading};
+use crate::threading::Threading;
 use ident_core::place_of_key_near;
 use job_core::JobCrl;
 use ledger_core::LedgerItem;
 use octets_core::Key32;
-use rayon::current_num_threads;
 use std::alloc::{AllocError, Global};
 use std::thread::{Threads, join};
 
@@ -28,33 +26,6 @@ use std::thread::{Threads, join};
 pub(crate) struct Flags {
     pub(crate) revoked: Vec<bool>,
     pub(crate) universe: u32,
-}
-
-fn is_flagged(member: &LedgerItem, settled: bool, listed: bool) -> bool
-    ensures { result ≡ ((is_some member.now.last || listed) && not settled) }
-{
-    let was = member.last.is_some();
-    (was || listed) && !settled
-}
-
-/// The place of a member's issuer, if it is enrolled, where a guess tells it. A search is made only where it doesn't.
-fn place_near(issuers: &[Key32], guess: usize, member: &LedgerItem) -> Option<usize>
-    requires { IsStrictlySortedBy octets_cmp issuers.now }
-    ensures { is_some result ≡ has_key issuers.now member.now.id.issuer }
-{
-    place_of_key_near(issuers, guess, &member.id.issuer)
-}
-
-fn both(enrolled: bool, flagged: bool) -> bool
-    ensures { result ≡ (enrolled && flagged) }
-{
-    enrolled && flagged
-}
-
-fn one(is: bool) -> u32
-    ensures { result ≡ one_if is }
-{
-    if is { 1 } else { 0 }
 }
 
 /// Which members are revoked, where it is known which are settled and which a job lists.
@@ -76,38 +47,19 @@ pub(crate) fn flag(
     let mut near = 0;
     for i in 0..members.len() {
         // The members ascend, so that neighbours mostly have one issuer.
-        let place = place_near(issuers, near, &members[i]);
+        let place = place_of_key_near(issuers, near, &members[i].id.issuer);
         let enrolled = place.is_some();
-        let flagged = is_flagged(&members[i], settled[i], listed[i]);
-        revoked.push(both(enrolled, flagged))?;
-        universe += one(enrolled);
+        let was = members[i].last.is_some();
+        revoked.push(enrolled & ((was | listed[i]) & !settled[i]))?;
+        universe += u32::from(enrolled);
         near = place.unwrap_or(near);
     }
     Ok(Flags { revoked, universe })
 }
 
-/// The same, by as many threads as there are processors, or fewer where each would have few members.
-pub(crate) fn flag_in_threads<R: Threads + Sync>(
-    rt: &R,
-    alloc: Global,
-    issuers: &[Key32],
-    members: &[LedgerItem],
-    settled: &[bool],
-    listed: &[bool],
-) -> Result<Flags, AllocError>
-    requires settled { length settled.now ≡ length members.now }
-    requires listed { length listed.now ≡ length members.now }
-    requires ascend { IsStrictlySortedBy octets_cmp issuers.now }
-    requires few { length members.now ≤ 4294967295 }
-    ensures { IfOk result (λ f. AreFlags issuers.now members.now settled.now listed.now f.revoked.items f.universe) }
-{
-    let share = members.len().div_ceil(current_num_threads(rt));
-    flag_halves(rt, alloc, issuers, members, settled, listed, share.max(FEW))
-}
-
-/// The same. The members are halved into threads until none has more than `most`.
+/// The same, by threads. The members are halved into threads until none has more than `most`.
 #[cycle(flag_halves)]
-fn flag_halves<R: Threads + Sync>(
+pub(crate) fn flag_halves<R: Threads + Sync>(
     rt: &R,
     alloc: Global,
     issuers: &[Key32],
@@ -143,23 +95,11 @@ fn flag_halves<R: Threads + Sync>(
             AreFlags issuers.entry.now rest.entry.now rest_settled.entry.now rest_listed.entry.now f.revoked.items f.universe) }
     { flag_halves(rt, alloc, issuers, rest, rest_settled, rest_listed, most) };
     let (one, two) = join(rt, front, back);
-    let first_flags = one?;
-    let rest_flags = two?;
-    let flags = flags_of_both(first_flags, rest_flags)?;
+    let mut flags = one?;
+    let mut rest_flags = two?;
+    flags.revoked.append(&mut rest_flags.revoked)?;
+    flags.universe += rest_flags.universe;
     Ok(flags)
-}
-
-/// The flags of some members and of those behind them.
-fn flags_of_both(front: Flags, back: Flags) -> Result<Flags, AllocError>
-    requires { front.universe + back.universe ≤ 4294967295 }
-    ensures revoked { IfOk result (λ f. f.revoked.items ≡ front.revoked.items ++ back.revoked.items) }
-    ensures universe { IfOk result (λ f. f.universe ≡ front.universe + back.universe) }
-{
-    let universe = front.universe + back.universe;
-    let mut revoked = front.revoked;
-    let mut more = back.revoked;
-    revoked.append(&mut more)?;
-    Ok(Flags { revoked, universe })
 }
 
 /// Which members of a job are revoked, by its CRLs and the issuers that it enrolls.

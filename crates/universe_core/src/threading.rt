@@ -9,7 +9,7 @@ ghost use Rattle.universe_core.specs.Members.{group_with};
 ghost use Rattle.universe_core.specs.Merges.{AreMergeable, IsMergeOf};
 
 use crate::admitted::Group;
-use crate::flagging::{Flags, flag, flag_in_threads};
+use crate::flagging::{Flags, flag, flag_halves};
 use crate::grouping::{groups, groups_in_threads};
 use crate::halving::merge_in_threads;
 use crate::judging::Context;
@@ -41,7 +41,10 @@ pub(crate) trait Threading {
         requires shared { shared self.now }
         requires mergeable { AreMergeable context.now items.now entries.old }
         ensures same { OnOk result (IsPermutation entries.old entries.new) }
-        ensures merged { IfOk result (IsMergeOf context.now items.now entries.new) };
+        ensures merged { IfOk result (IsMergeOf context.now items.now entries.new) }
+    {
+        merge_unsorted(alloc, context, items, entries)
+    }
 
     /// Which members are revoked, where it is known which are settled and which a job lists.
     fn flag(
@@ -57,7 +60,10 @@ pub(crate) trait Threading {
         requires listed { length listed.now ≡ length members.now }
         requires ascend { IsStrictlySortedBy octets_cmp issuers.now }
         requires few { length members.now ≤ 4294967295 }
-        ensures { IfOk result (λ f. AreFlags issuers.now members.now settled.now listed.now f.revoked.items f.universe) };
+        ensures { IfOk result (λ f. AreFlags issuers.now members.now settled.now listed.now f.revoked.items f.universe) }
+    {
+        flag(alloc, issuers, members, settled, listed)
+    }
 
     /// The groups of issuers, in their order, where it is known of each identity whether it is revoked.
     fn groups(
@@ -71,7 +77,10 @@ pub(crate) trait Threading {
         requires ascend { IsStrictlySortedBy identity_cmp (ids items.now) }
         requires beside { length revoked.now ≡ length items.now }
         ensures { (h : IdentityFields → Bool) → revoked.now ≡ map h (ids items.now)
-            → IfOk result (λ gs. map group_fields gs.items ≡ map (group_with h (ids items.now)) issuers.now) };
+            → IfOk result (λ gs. map group_fields gs.items ≡ map (group_with h (ids items.now)) issuers.now) }
+    {
+        groups(alloc, issuers, items, revoked)
+    }
 }
 
 /// The caller's thread alone.
@@ -80,37 +89,6 @@ pub(crate) struct CallersThread;
 
 impl Threading for CallersThread {
     ghost shared = { λ threading. Unit {0} };
-
-    fn merge(
-        &self,
-        alloc: Global,
-        context: &Context,
-        items: &[LedgerItem],
-        entries: &mut [ReadEntry],
-    ) -> Result<Merged, AllocError> {
-        merge_unsorted(alloc, context, items, entries)
-    }
-
-    fn flag(
-        &self,
-        alloc: Global,
-        issuers: &[Key32],
-        members: &[LedgerItem],
-        settled: &[bool],
-        listed: &[bool],
-    ) -> Result<Flags, AllocError> {
-        flag(alloc, issuers, members, settled, listed)
-    }
-
-    fn groups(
-        &self,
-        alloc: Global,
-        issuers: &[Key32],
-        items: &[LedgerItem],
-        revoked: &[bool],
-    ) -> Result<Vec<Group>, AllocError> {
-        groups(alloc, issuers, items, revoked)
-    }
 }
 
 /// As many threads as there are processors where there are more workers than one, else the caller's.
@@ -149,7 +127,11 @@ impl<'a, R: Threads + Sync> Threading for ByWorkers<'a, R> {
         listed: &[bool],
     ) -> Result<Flags, AllocError> {
         if self.workers > 1 {
-            flag_in_threads(self.rt, alloc, issuers, members, settled, listed)
+            let share = members
+                .len()
+                .div_ceil(current_num_threads(self.rt))
+                .max(FEW);
+            flag_halves(self.rt, alloc, issuers, members, settled, listed, share)
         } else {
             flag(alloc, issuers, members, settled, listed)
         }
