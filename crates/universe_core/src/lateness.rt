@@ -14,20 +14,12 @@ use ledger_core::{Ledger, LedgerItem, LedgerPart};
 use log_core::Entry;
 use octets_core::Key32;
 
-/// Whether a part covers the sighting and enrolls the issuer. The place of the log's range is guessed.
-fn part_lacks(part: &LedgerPart, issuer: &Key32, sighting: &Sighting, near: usize) -> bool
-    requires { IsSearchable part.now }
-    ensures { result ≡ (covers part.now.ranges.items sighting.now && has_key part.now.issuers.items issuer.now) }
-{
-    covers_near(&part.ranges, near, sighting) && holds_key(&part.issuers, issuer)
-}
-
 fn some_lacks(parts: &[LedgerPart], issuer: &Key32, sighting: &Sighting, near: usize) -> bool
     requires { All IsSearchable parts.now }
     ensures { result ≡ list_any (λ p. covers p.ranges.items sighting.now && has_key p.issuers.items issuer.now) parts.now }
 {
     for part in parts {
-        if part_lacks(part, issuer, sighting, near) {
+        if covers_near(&part.ranges, near, sighting) && holds_key(&part.issuers, issuer) {
             return true;
         }
     }
