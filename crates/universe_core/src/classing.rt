@@ -12,18 +12,6 @@ use crate::lateness::known_of;
 use ident_core::place_covering;
 use job_core::Job;
 use ledger_core::Ledger;
-use log_core::Entry;
-
-/// Whether an entry is late behind a ledger, or where there is none. The place of the log's range is guessed.
-fn is_late_behind(ledger: Option<&Ledger>, entry: &Entry, near: usize) -> bool
-    ensures { result ≡ (past_in
-        (ledger_or_none (option_map {U = LedgerFields} (λ l. l.now) ledger.entry))).comes_late entry.now.id entry.now.sighting }
-{
-    match ledger {
-        Some(ledger) => known_of(ledger, entry, near, None).late,
-        None => false,
-    }
-}
 
 /// What an entry of a job is, by its place, behind a ledger, or in a first job where there is none. The job's ranges
 /// fit. It takes no memory.
@@ -43,8 +31,10 @@ pub fn class_of(ledger: Option<&Ledger>, job: &Job, entry: usize) -> Class
     if !is_enrolled(job, &entry.id.issuer) {
         return Class::Unenrolled;
     }
-    if is_late_behind(ledger, entry, near) {
-        return Class::Late;
+    if let Some(ledger) = ledger {
+        if known_of(ledger, entry, near, None).late {
+            return Class::Late;
+        }
     }
     Class::Accepted
 }

@@ -13,7 +13,6 @@ ghost use Rattle.std.specs.declared.cmp.Ordering.TheVariants.{Less, Greater};
 
 use crate::listing::{Listed, sorted};
 use crate::serial_key::{key_of, order_serials};
-use ident_core::Serial;
 use job_core::JobCrl;
 use ledger_core::LedgerItem;
 use octets_core::Key32;
@@ -147,29 +146,6 @@ fn mark_serials(
     }
 }
 
-/// Marks the members that an issuer's CRL lists, beside those that were marked.
-fn mark_list(
-    alloc: Global,
-    flags: &mut [bool],
-    members: &[LedgerItem],
-    issuer: &Key32,
-    serials: &[Serial],
-) -> Result<(), AllocError>
-    requires sorted { IsStrictlySortedBy identity_cmp (ids members.now) }
-    requires beside { length flags.old ≡ length members.now }
-    ensures { (p : IdentityFields → Bool) → flags.old ≡ map p (ids members.now)
-        → OnOk result (flags.new
-        ≡ map (λ x. p x || (bytes_eq x.issuer issuer.now && has_key serials.now x.serial)) (ids members.now)) }
-{
-    let run = run_of(members, issuer);
-    if run.start == run.end {
-        return Ok(());
-    }
-    let listed = sorted(alloc, serials)?;
-    mark_serials(flags, members, issuer, run, &listed);
-    Ok(())
-}
-
 /// Marks the members that a CRL holds, if it is accepted, beside those that were marked.
 fn mark_crl(
     alloc: Global,
@@ -182,10 +158,15 @@ fn mark_crl(
     ensures { (p : IdentityFields → Bool) → flags.old ≡ map p (ids members.now)
         → OnOk result (flags.new ≡ map (λ x. p x || holds (facts_of_crl crl.now) x) (ids members.now)) }
 {
-    match &crl.outcome {
-        Ok(list) => mark_list(alloc, flags, members, &crl.issuer, &list.serials),
-        Err(_) => Ok(()),
+    if let Ok(list) = &crl.outcome {
+        let run = run_of(members, &crl.issuer);
+        if run.start == run.end {
+            return Ok(());
+        }
+        let listed = sorted(alloc, &list.serials)?;
+        mark_serials(flags, members, &crl.issuer, run, &listed);
     }
+    Ok(())
 }
 
 /// Marks the members that CRLs hold, beside those that were marked.
