@@ -32,9 +32,10 @@ struct Guesses {
     above: Option<u64>,
 }
 
-/// The head of an item with the issuer of the identity and a serial as long. Those stand together, and their heads
-/// ascend.
-fn head_beside(item: &LedgerItem, id: &Identity) -> Option<u64> {
+/// The head of an item, if there is one with the issuer of the identity and a serial as long. Those stand together, and
+/// their heads ascend.
+fn head_beside(item: Option<&LedgerItem>, id: Option<&Identity>) -> Option<u64> {
+    let (item, id) = (item?, id?);
     if item.id.issuer != id.issuer || item.id.serial.bytes().len() != id.serial.bytes().len() {
         return None;
     }
@@ -121,11 +122,6 @@ impl<'a> Search<'a> {
         }
     }
 
-    /// What the item at a place gives to guess from.
-    fn beside(&self, items: &[LedgerItem], place: usize) -> Option<u64> {
-        head_beside(items.get(place)?, self.id?)
-    }
-
     /// Looks at a place, whose item gives this to guess from.
     fn look(&mut self, items: &[LedgerItem], place: usize, beside: Option<u64>) {
         let (Some(id), Some(item)) = (self.id, items.get(place)) else {
@@ -171,8 +167,14 @@ pub fn guessed_places(items: &[LedgerItem], entries: &[Option<Entry>], at: usize
             d.next_place(),
         );
         // (what is read of the four items comes before any is compared, so that no miss waits for another)
-        let (of_p, of_q) = (a.beside(items, p), b.beside(items, q));
-        let (of_r, of_s) = (c.beside(items, r), d.beside(items, s));
+        let (of_p, of_q) = (
+            head_beside(items.get(p), a.id),
+            head_beside(items.get(q), b.id),
+        );
+        let (of_r, of_s) = (
+            head_beside(items.get(r), c.id),
+            head_beside(items.get(s), d.id),
+        );
         a.look(items, p, of_p);
         b.look(items, q, of_q);
         c.look(items, r, of_r);
@@ -201,11 +203,11 @@ pub(crate) fn item_of(
             Ordering::Equal => return Some(*item),
             Ordering::Less => {
                 low = middle + 1;
-                guesses.below = head_beside(item, id);
+                guesses.below = head_beside(Some(item), Some(id));
             }
             Ordering::Greater => {
                 high = middle;
-                guesses.above = head_beside(item, id);
+                guesses.above = head_beside(Some(item), Some(id));
             }
         }
     }

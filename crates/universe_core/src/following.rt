@@ -6,7 +6,7 @@ ghost use Rattle.job_core.specs.declared.bounds.TheConstants.Limits.{PUBLISHED};
 ghost use Rattle.job_core.specs.JobFields.{fields_of_job, crl_view};
 ghost use Rattle.ledger_core.specs.LedgerFields.{IsLedger, part_fields, newest};
 ghost use Rattle.universe_core.specs.Jobs.{facts_of_job};
-ghost use Rattle.universe_core.specs.Members.{first_part, unsealed};
+ghost use Rattle.universe_core.specs.Members.{unsealed};
 ghost use Rattle.universe_core.specs.Step.{bad_crl_from, old_epoch, shrunk, chain_full, head_after};
 ghost use Rattle.universe_core.specs.Following.{early};
 
@@ -135,19 +135,6 @@ fn copied_parts(alloc: Global, parts: &[LedgerPart]) -> Result<Vec<LedgerPart>, 
     Ok(out)
 }
 
-/// The part of a job, whose trailer isn't known yet.
-fn new_part(alloc: Global, job: &Job, issuers: Vec<Key32>) -> Result<LedgerPart, AllocError>
-    ensures { IfOk result (λ p. part_fields p ≡ first_part job.now.epoch job.now.ranges.items issuers.items) }
-{
-    let ranges = copied_ranges(alloc, &job.ranges)?;
-    Ok(LedgerPart {
-        epoch: job.epoch,
-        trailer: Key32::new([0; 32]),
-        ranges,
-        issuers,
-    })
-}
-
 /// The next ledger, but for its newest part's trailer.
 pub(crate) fn next_draft(
     alloc: Global,
@@ -159,9 +146,14 @@ pub(crate) fn next_draft(
     requires { IsLedger (unsealed parts.now (facts_of_job job.now) issuers.items items.items) }
     ensures { IfOk result (λ d. d ≡ unsealed parts.now (facts_of_job job.now) issuers.items items.items) }
 {
-    let part = new_part(alloc, job, issuers)?;
+    let ranges = copied_ranges(alloc, &job.ranges)?;
     let mut all = copied_parts(alloc, parts)?;
-    all.push(part)?;
+    all.push(LedgerPart {
+        epoch: job.epoch,
+        trailer: Key32::new([0; 32]),
+        ranges,
+        issuers,
+    })?;
     let draft = Draft::new(all, items);
     Ok(draft)
 }
