@@ -97,9 +97,9 @@ shown_few past job =
     let b = count_by-le-length (λ o. is_some (if_accepted (class_of past job o) o)) job.entries in
     omega (arith, a, b)
 
-pub accepted_few : (past : Past) (job : JobFacts) → length (accepted_with past job) ≤ length past.accepted + length job.entries
+pub accepted_few_more : (past : Past) (job : JobFacts) → length (accepted_with past job) ≤ length past.accepted + length job.entries
 unfolding accepted_with
-accepted_few past job =
+accepted_few_more past job =
     let a = set_few identity_cmp (map (λ (e : Entry). e.id) (shown past job) ++ past.accepted) in
     let d = length-append (map (λ (e : Entry). e.id) (shown past job)) past.accepted in
     let b = length-map (shown past job) (λ (e : Entry). e.id) in
@@ -116,7 +116,7 @@ all_few jobs (suc n) le =
     let longer : suc n ≡ n + 1 = omega arith in
     let is = ap (λ k. length (accepted_by [] (left_by_jobs (take k jobs)))) longer ∙ ap (λ l. length (accepted_by [] l)) (history_at jobs n at.0 at.1)
     ∙ ap length (accepted_by-push [] rs (release_behind (take n jobs) at.0)) in
-    let few = accepted_few (past_of rs) (facts_of at.0) in
+    let few = accepted_few_more (past_of rs) (facts_of at.0) in
     let sum = ap (λ k. entries_of (take k jobs)) longer ∙ ap entries_of (take_at jobs n at.0 at.1) ∙ sum_by_push (λ (k : JobFields). length k.entries) (take n jobs) at.0 in
     omega (arith, before, is, few, sum)
 
@@ -151,7 +151,7 @@ refused_named jobs i job at admitted few entries crls ledger is fault h =
     let sound = history_sound jobs i (omega (arith, lt)) admitted in
     let past = ap (λ (l : LedgerFields). length (past_in l).accepted) is ∙ ap (λ (p : Past). length p.accepted) (past_in_ledger rs sound) ∙ ap length (accepted_is rs) in
     let before = all_few jobs i (omega (arith, lt)) in
-    let all = accepted_few (past_in ledger) (facts_of job) in
+    let all = accepted_few_more (past_in ledger) (facts_of job) in
     let to = entries_to jobs i job at in
     cause_is ledger job fault crls (omega (arith, lt, parts, many, few)) (omega (arith, past, before, all, to, entries)) h
 

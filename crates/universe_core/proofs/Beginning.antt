@@ -44,14 +44,14 @@ enrolled_few job = few_of _ (key_set (map (λ (c : Crl). c.issuer) job.crls)) (s
     few_of : (p : List ℕ → Bool) (ks : List (List ℕ)) → length ks ≤ length (map (λ (c : Crl). c.issuer) job.crls) → length (filter p ks) ≤ length job.crls
     few_of p ks h = let a = length-filter p ks in let b = count_by-le-length p ks in let m = length-map job.crls (λ (c : Crl). c.issuer) in omega arith
 
-accepted_few : (cs : List CrlMeaning) → length (filter_map accepted_crl cs) ≤ length cs
-accepted_few [] = omega arith
-accepted_few (c ∷ cs) =
-    let n = accepted_few cs in
+accepted_crls_few : (cs : List CrlMeaning) → length (filter_map accepted_crl cs) ≤ length cs
+accepted_crls_few [] = omega arith
+accepted_crls_few (c ∷ cs) =
+    let n = accepted_crls_few cs in
     elim (accepted_crl c) as (λ (o : Option Crl). length (cons_option o (filter_map accepted_crl cs)) ≤ length (c ∷ cs)) [ None ↦ omega arith | Some d ↦ omega arith ]
 
 pub issuers_few : (job : JobFields) → length (enrolled (facts_of job)) ≤ length job.crls
-issuers_few job = let a = enrolled_few (facts_of job) in let b = accepted_few job.crls in omega arith
+issuers_few job = let a = enrolled_few (facts_of job) in let b = accepted_crls_few job.crls in omega arith
 
 pub job_issuers_few : (job : Job) → length job.crls.items ≤ 65535 → length (enrolled (facts_of_job job)) ≤ 65535
 job_issuers_few job h = let a = issuers_few (fields_of_job job) in let b = length-map job.crls.items crl_view in omega arith
