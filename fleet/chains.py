@@ -6,7 +6,7 @@ from dataclasses import dataclass
 from pathlib import Path
 from typing import Any, NamedTuple
 
-from clubcard.places import WHOLE, Places, names_of, number_name, told
+from clubcard.places import Origin, Places, PlacesError, Split, cuts_of, names_of, origin_of, told
 
 from .made import File
 
@@ -17,23 +17,6 @@ BASE = ("base.job", "base.part", "base.ledger", "base.store")
 
 class PlanError(Exception):
     """EPOCH can't be used; the text says why and what to do."""
-
-
-@dataclass(frozen=True)
-class Split:
-    """A place of so many, by `issuer` or `identity`."""
-
-    by: str
-    count: int
-    number: int
-
-
-@dataclass(frozen=True)
-class Origin:
-    """The place of the epoch before of which one begins anew, and the splits that make it, the first one first."""
-
-    place: str
-    splits: tuple[Split, ...]
 
 
 @dataclass(frozen=True)
@@ -112,35 +95,6 @@ def places_in(folder: str) -> Places | None:
     return places and Places(**places)
 
 
-def cuts_of(places: Places | None, name: str) -> dict[str, tuple[int, int]]:
-    """By issuer and by identity, of how many places one is, and its number among them."""
-    cuts = {"issuer": (1, 0), "identity": (1, 0)}
-    if places is not None:
-        large, _, number = name.partition(".")
-        cuts[places.by] = places.count, int(large)
-        if number:
-            cuts["identity"] = places.again[large], int(number)
-    return cuts
-
-
-def origin_of(old: Places | None, new: Places | None, name: str) -> Origin:
-    """The old place in which a new one lies: what is of a place of 8 is of one of 4, by the rest of its number. Raises
-    PlanError where there is none."""
-    cuts, place = cuts_of(new, name), WHOLE
-    if old is not None:
-        place = number_name(cuts[old.by][1] % old.count)
-        if place in old.again:
-            place = f"{place}.{number_name(cuts['identity'][1] % old.again[place])}"
-    before = cuts_of(old, place)
-    for by, (count, number) in cuts.items():
-        if count % before[by][0] or number % before[by][0] != before[by][1]:
-            raise PlanError(
-                f"the chains have {told(old)}, none of which holds {name} of {told(new)}: write the same [places], or "
-                "multiples of its counts, or leave [before] out, which begins new chains"
-            )
-    return Origin(place, tuple(Split(by, *cut) for by, cut in cuts.items() if cut != before[by]))
-
-
 def origins_of(old: Places | None, new: Places | None, names: Collection[str]) -> dict[str, Origin]:
     """Which places begin anew: those that lie in old ones of these names. Raises PlanError where another would have to,
     or there is no old one."""
@@ -149,10 +103,13 @@ def origins_of(old: Places | None, new: Places | None, names: Collection[str]) -
         raise PlanError(f"[rebase] places: {unknown[0]!r} is no place of the epoch before, which has {told(old)}")
     found = {}
     for name in names_of(new):
-        origin = origin_of(old, new, name)
+        try:
+            origin = origin_of(old, new, name)
+        except PlacesError as fault:
+            raise PlanError(f"the chains have {fault}, or leave [before] out, which begins new chains") from None
         if origin.place in names:
             found[name] = origin
-        elif origin != Origin(name, ()):
+        elif origin != Origin(name):
             raise PlanError(
                 f"{name} would be split from {origin.place} of {told(old)}: write the same [places], or name it in "
                 "[rebase], or leave [before] out, which begins new chains"

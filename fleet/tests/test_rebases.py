@@ -16,8 +16,8 @@ from hypothesis import given
 from hypothesis import strategies as st
 from reference import EVERYTHING, Base, History, Job, T, at_place, issuer_place, place
 
-from clubcard.places import Places
-from fleet.chains import BASE, PlanError, origin_of
+from clubcard.places import Places, PlacesError, origin_of
+from fleet.chains import BASE, PlanError
 from fleet.epoch import load
 from fleet.plan import HEAD, MADE
 from fleet.tests.made_epochs import ISSUERS, World, make_world, program, wait_until
@@ -197,7 +197,7 @@ def test_a_place_lies_in_that_of_its_certificates(
     name = new.place_of(issuer, serial)
     try:
         origin = origin_of(old, new, name)
-    except PlanError:
+    except PlacesError:
         return
     assert old is None or origin.place == old.place_of(issuer, serial)
     identity = (issuer, len(serial), serial)

@@ -11,6 +11,8 @@ from dataclasses import dataclass, field
 
 from .octets import BytesLike
 
+Cuts = dict[str, tuple[int, int]]
+"""By issuer and by identity, into how many a history is cut, and the number of a place among these."""
 WHOLE = "whole"
 """The one place where a history isn't cut."""
 MOST = 1024
@@ -26,6 +28,24 @@ class By(enum.Enum):
 
 class PlacesError(ValueError):
     """A plan can't be used; the text says why and what to do."""
+
+
+@dataclass(frozen=True)
+class Split:
+    """A place of so many, by `issuer` or `identity`."""
+
+    by: str
+    count: int
+    number: int
+
+
+@dataclass(frozen=True)
+class Origin:
+    """The place of a coarser plan that has all certificates of one, and the splits that make this of it, the first one
+    first."""
+
+    place: str
+    splits: tuple[Split, ...] = ()
 
 
 @dataclass(frozen=True)
@@ -89,23 +109,10 @@ class Places:
         # By issuer the serial says nothing.
         return self.by == "identity" or name[:4] == number_name(place(By.ISSUER, issuer, b"\0", self.count))
 
-    def origins(self, old: "Places | None") -> dict[str, str]:
-        """Of each place the one of a coarser plan, or the whole, that has all of its certificates: the old place is
-        split into these. A PlacesError where the old plan isn't such a one."""
-        if old is None:
-            return dict.fromkeys(self.names(), WHOLE)
-        if old.by != self.by or self.count % old.count:
-            raise PlacesError(f"{old} can't be split into {self}: write by = {old.by!r} and a multiple of {old.count}")
-        found: dict[str, str] = {}
-        for number, names in enumerate(self.groups()):
-            origin = number_name(number % old.count)
-            most = old.again.get(origin, 1)
-            if len(names) % most:
-                wanted = f"again: write a multiple of {most} for {names[0][:4]}"
-                raise PlacesError(f"{old} can't be split into {self}: {wanted}")
-            for at, name in enumerate(names):
-                found[name] = origin if most == 1 else f"{origin}.{number_name(at % most)}"
-        return found
+    def origins(self, old: "Places | None") -> dict[str, Origin]:
+        """Of what place of a coarser plan, or of the whole, each one is split. A PlacesError where the old plan isn't
+        such a one."""
+        return {name: origin_of(old, self, name) for name in self.names()}
 
     def members(self) -> dict[str, object]:
         """The plan in JSON."""
@@ -147,6 +154,34 @@ def number_name(number: int) -> str:
 def names_of(places: Places | None) -> list[str]:
     """The names of all places, or of the one."""
     return [WHOLE] if places is None else places.names()
+
+
+def cuts_of(places: Places | None, name: str) -> Cuts:
+    """The cuts that make a place."""
+    cuts = {"issuer": (1, 0), "identity": (1, 0)}
+    if places is not None:
+        large, _, number = name.partition(".")
+        cuts[places.by] = places.count, int(large)
+        if number:
+            cuts["identity"] = places.again[large], int(number)
+    return cuts
+
+
+def origin_of(old: Places | None, new: Places | None, name: str) -> Origin:
+    """The old place in which a new one lies: what is of a place of 8 is of one of 4, by the rest of its number. Raises
+    PlacesError where there is none."""
+    cuts, place = cuts_of(new, name), WHOLE
+    if old is not None:
+        place = number_name(cuts[old.by][1] % old.count)
+        if place in old.again:
+            place = f"{place}.{number_name(cuts['identity'][1] % old.again[place])}"
+    before = cuts_of(old, place)
+    for by, (count, number) in cuts.items():
+        most, at = before[by]
+        if count % most or number % most != at:
+            wanted = f"write the same [places], or a multiple of {most} for those by {by}"
+            raise PlacesError(f"{told(old)}, none of which holds {name} of {told(new)}: {wanted}")
+    return Origin(place, tuple(Split(by, *cut) for by, cut in cuts.items() if cut != before[by]))
 
 
 def is_split(old: Places | None, new: Places | None) -> bool:

@@ -48,10 +48,11 @@ def manifest_of(placed: Placed) -> Manifest:
     [
         [None, PLACES, FINER],
         [None, Places("identity", 2), Places("identity", 6)],
+        [None, Places("identity", 2), Places("issuer", 2, {"0000": 4, "0001": 2})],
         [Places("issuer", COUNT), PLACES, replace(PLACES, again={LARGE: 6})],
         [None, Places("issuer", 16)],
     ],
-    ids=["by issuer and identity", "by identity", "one place finer", "places without certificates"],
+    ids=["by issuer and identity", "by identity", "both", "one place finer", "places without certificates"],
 )
 def test_answers_stay(tmp_path: Path, plans: list[Places | None]) -> None:
     """Behind each split, and behind the epoch that follows; a split that is done is none again."""

@@ -44,7 +44,7 @@ def _run(making: Making, newest: Newest, without: list[int]) -> Begun:
     origins = places.origins(making.state.places())
     made: Begun = {}
     for origin, (line, files) in rebasing.run(making, newest, without).items():
-        names = [name for name, each in origins.items() if each == origin]
+        names = [name for name, each in origins.items() if each.place == origin]
         if names == [origin]:
             made[origin] = line, files
             continue
