@@ -86,12 +86,24 @@ def test_a_full_ledger(tmp_path: Path) -> None:
     world.write(entries)
     row = world.epoch(4, {0: [b"\x01\x02"]}).row
     (alarm,) = row.alarms
-    assert (
-        row.shown == 3 and alarm.kind == "room" and "publish some of the issuers by a CONFIG of their own" in alarm.text
-    )
+    assert row.shown == 3 and alarm.kind == "room" and "run `clubcard-publish split " in alarm.text
     row = world.epoch(8, {0: [b"\x01\x00"]}).row
     assert row.shown == 0 and world.kinds() == {"room"}
     assert world.ask(entries) == ["revoked", "good", "revoked", "not-covered", "not-covered"]
+
+
+@pytest.mark.parametrize("held", [6, 7])
+def test_a_chain_that_is_to_be_split(tmp_path: Path, held: int) -> None:
+    """It is told once it holds more than two thirds of what it takes, by the same words in each epoch."""
+    world = Spooled.of(tmp_path)
+    world.limits = Limits(identities=9)
+    world.write([Seen(0, at(1), 0, bytes([1, place])) for place in range(held)])
+    assert world.epoch(4, {0: []}).row.alarms == ()
+    rows = [world.epoch(hours, {0: []}).row for hours in (8, 12)]
+    assert rows[0].alarms == rows[1].alarms and [alarm.kind for alarm in rows[0].alarms] == ["room"] * (held - 6)
+    for alarm in rows[0].alarms:
+        assert alarm.text.startswith("the ledger holds more than two thirds of the 9 identities that it takes")
+        assert alarm.text.endswith(f"run `clubcard-publish split {world.config.path}`")
 
 
 def test_a_full_ledger_begins_anew(tmp_path: Path) -> None:

@@ -12,7 +12,7 @@ from clubcard.manifest import from_json
 from clubcard.places import Places, told
 from clubcard.publish import chain, sums
 from clubcard.publish.epoch import Limits, NoEpoch
-from clubcard.publish.run import NO_EPOCH, run
+from clubcard.publish.run import NO_EPOCH, WITH_ALARMS, run, split
 from clubcard.publish.state import State
 from clubcard.publish.status import gather, lines
 from placed import COUNT, ISSUERS, LARGE, PLACES, Placed, entry_of, place_of
@@ -181,6 +181,24 @@ def test_a_full_place(tmp_path: Path) -> None:
     placed.world.limits = Limits()
     assert placed.world.make(at(8), placed.lists(1)).row.waiting == 0
     assert placed.world.ask(placed.seen) == placed.truth()
+
+
+def test_places_that_are_to_be_split(tmp_path: Path) -> None:
+    """Those alone that hold more than two thirds of what they take are named, and behind a split none is."""
+    placed = Placed.of(tmp_path)
+    sizes = {name: sum(place_of(each) == name for each in placed.entries(1)) for name in PLACES.names()}
+    limit = max(sizes.values()) + 1
+    placed.world.limits = Limits(identities=limit)
+    assert placed.epoch(1).alarms == ()
+    named = [name for name, size in sizes.items() if 3 * size > 2 * limit]
+    assert 0 < len(named) < len(sizes)
+    row = placed.world.make(at(8), placed.lists(1)).row
+    assert [alarm.text.partition(" holds")[0] for alarm in row.alarms] == [f"place {name}" for name in named]
+    placed.publish()
+    finer = Places("issuer", COUNT, {f"{number:04}": 4 for number in range(COUNT)})
+    placed.world.configure(places=finer)
+    assert split(placed.world.config).status == WITH_ALARMS
+    assert placed.world.make(at(12), placed.lists(1)).row.alarms == ()
 
 
 def test_a_crl_that_the_program_refuses(tmp_path: Path) -> None:

@@ -12,7 +12,7 @@ Kind = Literal["issuer", "log", "late", "held", "without", "count", "point", "ro
 """issuer: one of CONFIG is left out; log: one isn't followed in this epoch; late: an entry was merged too late by its
 log; held: waiting entries hold a rebase back; without: the chain began anew without issuers; count: entries that the
 program counts otherwise were set aside; point: a certificate names a distribution point that CONFIG doesn't have; room:
-not all fits into the epoch; key: one key stands twice; clock: a time lies ahead."""
+not all fits into the epoch, or a chain is to be split; key: one key stands twice; clock: a time lies ahead."""
 
 
 @dataclass(frozen=True)

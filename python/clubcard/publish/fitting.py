@@ -56,11 +56,15 @@ def fitted(making: Making, showing: Showing, newest: Newest | None, plan: Plan) 
     """The plan with what its job is to cover: all that is known of the logs, where that fits.
 
     Else issuers are left out, those with the most first, until what the standing ranges show fits; then one time for
-    all logs cuts what is newly covered, and the next epochs go on from there. Each is an alarm.
+    all logs cuts what is newly covered, and the next epochs go on from there. Each is an alarm, and so is a chain that
+    is to be split.
     """
     plan, standing = _with_crls(making, plan), newest.ranges if newest else {}
     logs = _followed(making, standing)
     fit = _Fit(making, showing)
+    for name in fit.near_full():
+        text = f"more than two thirds of the {making.limits.identities} identities that it takes"
+        making.alarms.add("room", f"{_told(name)} holds {text}: {_split(making)}")
     whole = rules.ranges(logs, standing)
     for number in rules.parted(logs, standing):
         why = "its coverage stands still, since between it and what could be newly covered not all entries were taken"
@@ -103,21 +107,25 @@ class _Fit:
         lacking = self.lacking() if shown > self.least_room else {}
         if lacking:
             self.full = frozenset(lacking)
-            self.why = self._why_full(*min(lacking.items()))
+            place, room = min(lacking.items())
+            text = f"{_told(place)} takes {limits.identities} identities, and {room} more fit"
+            self.why = f"{text}: {_split(self.making)}"
         return not lacking
 
-    def _why_full(self, place: str, room: int) -> str:
-        """Why what is shown doesn't fit into the ledger of a place."""
+    def near_full(self) -> list[str]:
+        """The places whose ledgers hold more than two thirds of what they take. Only then are they counted."""
         limit = self.making.limits.identities
-        if place == WHOLE:
-            remedy = "publish some of the issuers by a CONFIG of their own, or split the chain into [places]"
-            return f"the ledger takes {limit} identities, and {room} more fit: {remedy}"
-        return f"place {place} takes {limit} identities, and {room} more fit: split it into more places"
+        return [name for name, room in self.room.items() if 3 * room < limit] if 3 * self.held > 2 * limit else []
 
     @cached_property
     def fits_all(self) -> bool:
         """Whether all that waits would fit, whatever of it is shown."""
         return self.making.waiting() <= min(self.making.limits.entries, self.least_room)
+
+    @cached_property
+    def held(self) -> int:
+        """How many identities all ledgers hold."""
+        return int(self.making.db.execute("SELECT count(*) FROM identity").fetchone()[0])
 
     @cached_property
     def room(self) -> dict[str, int]:
@@ -128,14 +136,24 @@ class _Fit:
     @cached_property
     def least_room(self) -> int:
         """How many identities more fit, wherever their places are."""
-        (held,) = self.making.db.execute("SELECT count(*) FROM identity").fetchone()
-        rough = max(0, self.making.limits.identities - int(held))
+        rough = max(0, self.making.limits.identities - self.held)
         return rough if self.making.waiting() <= rough else min(self.room.values())
 
     def lacking(self) -> dict[str, int]:
         """The places whose ledgers lack room for what is shown, with the room that they have."""
         fresh = self.showing.fresh(self.making.config.places)
         return {name: self.room[name] for name, count in fresh.items() if count > self.room[name]}
+
+
+def _told(place: str) -> str:
+    """How an alarm names a place."""
+    return "the ledger" if place == WHOLE else f"place {place}"
+
+
+def _split(making: Making) -> str:
+    """What to do where a chain holds too much."""
+    finer = "cut it finer in [places], by issuer or by identity"
+    return f"{finer}, and run `clubcard-publish split {making.config.path}`"
 
 
 def _followed(making: Making, standing: Mapping[int, rules.Range]) -> dict[int, LogRow]:
