@@ -10,6 +10,7 @@ import signal
 import sys
 from collections.abc import Callable, Iterator
 from dataclasses import replace
+from functools import partial
 from pathlib import Path
 from typing import Any
 
@@ -19,6 +20,8 @@ from clubcard.engine import Engine, Rebased
 from clubcard.http import Client
 from clubcard.manifest import Manifest, from_json
 from clubcard.places import Places, PlacesError, is_split
+from clubcard.publish import splitting
+from clubcard.publish.making import Limits, Making
 from clubcard.publish.run import NO_EPOCH, WITH_ALARMS, Outcome, run, split
 from followed import Web
 from placed import COUNT, LARGE, PLACES, Placed
@@ -114,6 +117,45 @@ def test_entries_that_wait(tmp_path: Path) -> None:
     outcome = split_to(placed, PLACES)
     assert outcome.status == NO_EPOCH and "10 entries of Issuer 3" in str(outcome.why) and shown(placed) == site
     placed.world.configure(issuers=placed.world.config.issuers[:3])
+    without_three(placed)
+
+
+def test_patience(tmp_path: Path) -> None:
+    """The split waits for an issuer as many epochs as a rebase does, and says how many these are still; nobody where
+    the chain has no room for another part."""
+    placed = Placed.of(tmp_path, None, patience=3)
+    placed.epoch(1)
+    lists = dict(placed.prepare(2))
+    del lists[3]
+    for hours, left in ((8, 2), (12, 1)):
+        placed.world.make(at(hours), lists)
+        site, state = shown(placed), dumped(placed.world)
+        outcome = split_to(placed, PLACES)
+        assert outcome.status == NO_EPOCH and "10 entries of Issuer 3 (" in str(outcome.why)
+        assert f"once an epoch enrolled it, or behind {left} more epochs, or take" in str(outcome.why)
+        assert (shown(placed), dumped(placed.world)) == (site, state)
+        placed.world.configure(places=None)
+    placed.world.make(at(16), lists)
+    placed.world.configure(places=PLACES)
+    without_three(placed)
+    # It is enrolled again, and shown all that waits.
+    assert placed.world.make(at(20), placed.lists(2)).row.waiting == 0
+    assert placed.world.ask(placed.seen) == placed.truth()
+
+
+def test_a_full_chain_waits_for_nobody(tmp_path: Path, monkeypatch: pytest.MonkeyPatch) -> None:
+    placed = Placed.of(tmp_path, None)
+    placed.epoch(1)
+    lists = dict(placed.prepare(2))
+    del lists[3]
+    placed.world.make(at(8), lists)
+    assert split_to(placed, PLACES).status == NO_EPOCH
+    monkeypatch.setattr(splitting, "Making", partial(Making, limits=Limits(parts=2)))
+    without_three(placed)
+
+
+def without_three(placed: Placed) -> None:
+    """The chain is split without issuer 3, which is told; of the others it says what is true."""
     outcome = split(placed.world.config)
     assert outcome.status == WITH_ALARMS and [alarm.kind for alarm in outcome.alarms][-1] == "without"
     others = [index for index, each in enumerate(placed.seen) if each.issuer != 3]

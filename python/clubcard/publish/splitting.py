@@ -7,7 +7,7 @@ from pathlib import Path
 from ..engine import By, Engine, Rebased
 from ..places import Places
 from ..progress import Progress
-from . import chain, checking, rebasing, rules
+from . import chain, checking, rebasing
 from .alarms import Alarms
 from .chain import EpochRow, Newest
 from .config import Config
@@ -18,8 +18,9 @@ from .state import State
 
 def split(config: Config, state: State, engine: Engine, alarms: Alarms, progress: Progress) -> EpochRow:
     """Begins the chains of CONFIG's places, a split of the state's plan, with what the standing ones hold, in one
-    transaction; nothing is done where they have been begun. The newest epoch's row, whose alarms are raised again.
-    Raises NoEpoch where nothing is split: the state is as before."""
+    transaction; nothing is done where they have been begun. Entries that hold a rebase back hold the split back until
+    their issuer was away for `patience` epochs, or the chain has no room for another part. The newest epoch's row,
+    whose alarms are raised again. Raises NoEpoch where nothing is split: the state is as before."""
     row, newest = chain.newest_epoch(state), chain.newest(state)
     if row is None or newest is None:
         raise NoEpoch("there is no chain to be split yet", f"run `clubcard-publish run {config.path}`")
@@ -30,11 +31,19 @@ def split(config: Config, state: State, engine: Engine, alarms: Alarms, progress
     # The moment is the epoch's, so that it is the same split whenever it is begun again.
     making = Making(config, state, engine, row.moment, alarms, progress)
     holding, gone = rebasing.held_by(making, newest)
-    if rules.without(holding, gone, False) is None:
-        issuer = min(set(holding) - gone)
+    left = {issuer: config.patience - _away(making, issuer) for issuer in sorted(set(holding) - gone)}
+    if max(left.values(), default=0) > 0 and newest.parts < making.limits.parts:
+        issuer = max(left, key=left.__getitem__)
         why = f"{holding[issuer]} entries of {making.issuer_name(issuer)} wait, which isn't enrolled"
-        raise NoEpoch(why, "split the chain once an epoch enrolled it, or take its [[issuer]] out of CONFIG")
+        until = f"once an epoch enrolled it, or behind {left[issuer]} more epochs"
+        raise NoEpoch(why, f"split the chain {until}, or take its [[issuer]] out of CONFIG")
     return rebasing.rebased(making, newest, dict(sorted(holding.items())), _run, checking.of_split())
+
+
+def _away(making: Making, issuer: int) -> int:
+    """How many epochs there are since one enrolled an issuer."""
+    query = "SELECT count(*) FROM epoch WHERE moment > (SELECT enrolled_at FROM issuer WHERE id = ?)"
+    return int(making.db.execute(query, (issuer,)).fetchone()[0])
 
 
 def _run(making: Making, newest: Newest, without: list[int]) -> Begun:
