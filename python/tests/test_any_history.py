@@ -8,7 +8,7 @@ import pytest
 from hypothesis import HealthCheck, given, settings
 from hypothesis import strategies as some
 
-from clubcard.places import Places
+from clubcard.places import Places, names_of
 from clubcard.publish import chain
 from clubcard.publish.config import Config
 from clubcard.publish.epoch import Limits
@@ -112,7 +112,7 @@ def test_any_history(tmp_path_factory: pytest.TempPathFactory, happens: dict[str
         assert not fits or all(covered[log] == (0, moment - MMD) for log in heads)
         enrolled = {each.issuer for each in row.issuers if each.enrolled}
         assert not fits or enrolled == {key_of(issuer) for issuer in lists}
-        assert row.shown <= happens["most"]
+        assert row.shown <= happens["most"] * len(names_of(happens["places"]))
         assert all(
             low <= standing[log][0] and high >= standing[log][1]
             for log, (low, high) in covered.items()

@@ -23,9 +23,18 @@ pytestmark = pytest.mark.usefixtures("plain_charts")
 NAMES = {f"{number:04}" for number in range(COUNT)} - {LARGE} | {f"{LARGE}.0000", f"{LARGE}.0001"}
 
 
-@pytest.fixture(name="placed", scope="module")
-def three_epochs(tmp_path_factory: pytest.TempPathFactory) -> Placed:
+def largest(placed: Placed, epoch: int) -> int:
+    """How many of the new entries of an epoch are at the place that has the most."""
+    return max(sum(place_of(each) == name for each in placed.entries(epoch)) for name in PLACES.names())
+
+
+@pytest.fixture(name="placed", scope="module", params=[False, True], ids=["one slice", "several slices"])
+def three_epochs(request: pytest.FixtureRequest, tmp_path_factory: pytest.TempPathFactory) -> Placed:
+    """With several slices a job takes what a place has, and no more."""
     placed = Placed.of(tmp_path_factory.mktemp("placed"))
+    if request.param:
+        placed.world.limits = Limits(entries=max(largest(placed, epoch + 1) for epoch in range(EPOCHS)))
+        assert placed.world.limits.entries < 40
     with pytest.MonkeyPatch.context() as patch:
         patch.setattr("clubcard.publish.charts._svg", lambda chart, figures: b"<svg/>")
         for epoch in range(1, EPOCHS + 1):
@@ -110,12 +119,17 @@ def losing(by: str, record: bytes) -> Any:
     return made
 
 
+SLICES = pytest.mark.parametrize("most", [1 << 22, 25], ids=["one slice", "several slices"])
+
+
+@SLICES
 @pytest.mark.parametrize("by", ["issuer", "identity"])
 @pytest.mark.parametrize("record", [b"\2", b"\3"], ids=["a CRL", "an entry"])
-def test_a_lost_record(tmp_path: Path, monkeypatch: pytest.MonkeyPatch, by: str, record: bytes) -> None:
+def test_a_lost_record(tmp_path: Path, monkeypatch: pytest.MonkeyPatch, by: str, record: bytes, most: int) -> None:
     """It is found where it is lost; and where the bytes aren't compared, by the sums."""
     placed = Placed.of(tmp_path)
     placed.epoch(1)
+    placed.world.limits = Limits(entries=most)
     placed.prepare(2)
     with monkeypatch.context() as patch:
         patch.setattr(Engine, "cut", losing(by, record))
@@ -124,6 +138,19 @@ def test_a_lost_record(tmp_path: Path, monkeypatch: pytest.MonkeyPatch, by: str,
         why = lost(placed, 2)
         assert "of the whole job: some is lost" in why or "places by identity have the same issuers" in why
     assert placed.world.make(at(8), placed.lists(2)).row.shown == 40
+    assert placed.world.ask(placed.seen) == placed.truth()
+
+
+def test_a_lost_slice(tmp_path: Path, monkeypatch: pytest.MonkeyPatch) -> None:
+    placed = Placed.of(tmp_path)
+    placed.world.limits = Limits(entries=25)
+    placed.prepare(1)
+    with monkeypatch.context() as patch:
+        merge = Engine.merge
+        patch.setattr(Engine, "merge", lambda self, head, job, pieces: merge(self, head, job, pieces[:-1]))
+        assert "of the whole job: some is lost" in lost(placed, 1)
+    assert placed.world.make(at(4), placed.lists(1)).row.shown == 40
+    assert not any(path.is_file() for path in (placed.world.state.folder / "work").rglob("*"))
     assert placed.world.ask(placed.seen) == placed.truth()
 
 
@@ -183,6 +210,17 @@ def test_a_full_place(tmp_path: Path) -> None:
     assert placed.world.ask(placed.seen) == placed.truth()
 
 
+def test_a_place_with_more_than_a_job_takes(tmp_path: Path) -> None:
+    """What is newly covered is cut by what that place has, and the next epoch goes on from there."""
+    placed = Placed.of(tmp_path)
+    placed.world.limits = Limits(entries=largest(placed, 1) - 1)
+    row = placed.epoch(1)
+    assert placed.world.limits.entries < row.shown < 40 and [alarm.kind for alarm in row.alarms] == ["room"]
+    assert f"a job takes {placed.world.limits.entries} entries" in row.alarms[0].text
+    row = placed.world.make(at(8), placed.lists(1)).row
+    assert (row.waiting, row.alarms) == (0, ()) and placed.world.ask(placed.seen) == placed.truth()
+
+
 def test_places_that_are_to_be_split(tmp_path: Path) -> None:
     """Those alone that hold more than two thirds of what they take are named, and behind a split none is."""
     placed = Placed.of(tmp_path)
@@ -213,18 +251,22 @@ def test_a_crl_that_the_program_refuses(tmp_path: Path) -> None:
     assert "Issuer 3" in row.alarms[0].text and row.shown == 30
 
 
-def test_an_entry_that_is_counted_otherwise(tmp_path: Path) -> None:
-    """It is found by halves, and set aside, as without places."""
+@SLICES
+@pytest.mark.parametrize("time", [at(99), at(1)], ids=["uncovered", "late"])
+def test_an_entry_that_is_counted_otherwise(tmp_path: Path, time: int, most: int) -> None:
+    """It is found by halves, and set aside, as without places; also where a job takes less than all places have."""
     placed = Placed.of(tmp_path)
     placed.epoch(1)
+    placed.world.limits = Limits(entries=most)
     lists = placed.prepare(2)
     wrong = [Seen(0, at(5), issuer, b"\x77") for issuer in ISSUERS]
     placed.world.write(wrong)
-    # Of one of them the state names another record: the program takes it for uncovered.
-    placed.world.write([Seen(0, at(99), 0, b"\x78")])
+    # Of one of them the state names another record, which the program takes for uncovered, or for late.
+    placed.world.write([Seen(0, time, 0, b"\x78")])
     other = "FROM entry WHERE serial = x'78'"
     change = f"UPDATE entry SET start = (SELECT start {other}), segment = (SELECT segment {other})"
     placed.world.state.db.execute(f"{change} WHERE serial = x'77' AND issuer = 1")
+    placed.world.state.db.execute(f"DELETE {other}")
     row = placed.world.make(at(8), lists).row
     assert row.shown == 40 + len(wrong) - 1
     assert [alarm.kind for alarm in row.alarms] == ["count"] and "serial 77" in row.alarms[0].text

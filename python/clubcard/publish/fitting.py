@@ -93,16 +93,17 @@ class _Fit:
     showing: Showing
     why: str = ""
     full: frozenset[str] = frozenset()
-    """The places whose ledgers have no room."""
+    """The places whose jobs or ledgers have no room."""
 
     def fits(self, ranges: Mapping[int, rules.Range]) -> bool:
-        """Whether what these ranges show fits into a job and into the ledger of each place."""
+        """Whether what these ranges show fits into the job and into the ledger of each place."""
         self.showing.cover(ranges)
         if self.fits_all:
             return True
         limits, shown = self.making.limits, self.showing.count()
-        if shown > limits.entries:
-            self.why, self.full = f"a job takes {limits.entries} entries", frozenset()
+        sizes = self.showing.entries(self.making.config.places) if shown > limits.entries else {}
+        if large := frozenset(name for name, size in sizes.items() if size > limits.entries):
+            self.why, self.full = f"a job takes {limits.entries} entries", large
             return False
         lacking = self.lacking() if shown > self.least_room else {}
         if lacking:

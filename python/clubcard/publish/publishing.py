@@ -1,6 +1,6 @@
 """A plan becomes a part: the job is written, the program publishes it, and its line is compared with what was shown."""
 
-from collections.abc import Callable, Mapping
+from collections.abc import Callable, Mapping, Sequence
 from dataclasses import dataclass
 from pathlib import Path
 
@@ -21,6 +21,8 @@ MOST_RUNS = 200
 MOST_TOLD = 20
 """How many entries that it counts otherwise are told one by one."""
 
+Slice = tuple[int, int]
+"""Of what is shown, the first and the last entry (ids) of those that stand together."""
 _OTHER = "see that it is the program of this version"
 
 
@@ -84,12 +86,11 @@ class Publishing:
         """The part of a plan, or another plan where this one can't be published."""
         making, shown = self.making, self.showing.select()
         jobs = self._new_files("chain", ".job")
-        job = next(iter(jobs.values())) if making.config.places is None else making.state.new_file("work", ".job")
         with making.progress.task("publishing", shown) as task:
-            self.write(job, plan, self.showing.copy)
+            self.write_jobs(jobs, plan, self.slices())
             task.advance(shown)
             try:
-                made = self.run(job, jobs, "chain")
+                made = self.run(jobs, "chain")
             except _Refusal as refusal:
                 for path in jobs.values():
                     path.unlink(missing_ok=True)
@@ -107,8 +108,34 @@ class Publishing:
         names = names_of(self.making.config.places)
         return {name: self.making.state.new_file(folder, suffix, name) for name in names}
 
-    def write(self, path: Path, plan: Plan, entries: Callable[[JobWriter], None]) -> None:
-        """Writes a job of a plan, with these entries."""
+    def slices(self, low: int = 0, high: int | None = None) -> list[Slice]:
+        """What is shown, from a place up to another one, in slices that a job takes."""
+        return self.showing.slices(self.making.limits.entries, low, high)
+
+    def write_jobs(self, jobs: Mapping[str, Path], plan: Plan, slices: Sequence[Slice]) -> None:
+        """Writes the jobs of all places. Of several slices each is cut for itself, and each place's are merged."""
+        if self.making.config.places is None:
+            self.write(jobs[WHOLE], plan, slices)
+        elif len(slices) < 2:
+            self._write_cut(jobs, plan, slices)
+        else:
+            head, *pieces = (self._new_files("work", ".job") for _ in range(len(slices) + 1))
+            self._write_cut(head, plan, ())
+            for piece, each in zip(pieces, slices):
+                self._write_cut(piece, Plan({}, {}), (each,))
+            for name, job in jobs.items():
+                self.making.engine.merge(head[name], job, [piece[name] for piece in pieces])
+            for path in (path for piece in (head, *pieces) for path in piece.values()):
+                path.unlink()
+
+    def _write_cut(self, jobs: Mapping[str, Path], plan: Plan, slices: Sequence[Slice]) -> None:
+        """Writes a job, and cuts it into those of all places."""
+        job = self.making.state.new_file("work", ".job")
+        self.write(job, plan, slices)
+        self._divide(job, jobs)
+
+    def write(self, path: Path, plan: Plan, slices: Sequence[Slice]) -> None:
+        """Writes a job of a plan, with the entries of slices."""
         keys = dict(self.making.db.execute("SELECT id, key FROM log"))
         issuers = dict(self.making.db.execute("SELECT id, key FROM issuer"))
         with open(path, "wb", buffering=1 << 20) as file, JobWriter(file) as job:
@@ -117,11 +144,11 @@ class Publishing:
                 job.range(keys[number], low, high)
             for issuer, crl in ((issuer, crl) for issuer, crls in plan.crls.items() for crl in crls):
                 job.crl(issuers[issuer], crl.file.read_bytes())
-            entries(job)
+            for low, high in slices:
+                self.showing.copy(job, low, high)
 
-    def run(self, job: Path, jobs: Mapping[str, Path], folder: Folder) -> dict[str, Brought]:
-        """Cuts a job into those of all places, and runs the program behind the newest chain of each."""
-        self._divide(job, jobs)
+    def run(self, jobs: Mapping[str, Path], folder: Folder) -> dict[str, Brought]:
+        """Runs the program by the jobs of all places, behind the newest chain of each."""
         made: dict[str, Brought] = {}
         parts, ledgers = self._new_files(folder, ".part"), self._new_files(folder, ".ledger")
         for name, own in jobs.items():
@@ -142,10 +169,9 @@ class Publishing:
         return engine.delta(job, self.newest.places[name].ledger, part, ledger, workers)
 
     def _divide(self, job: Path, jobs: Mapping[str, Path]) -> None:
-        """Cuts a job into those of places, and removes it; without places it is the one."""
+        """Cuts a job into those of places, and removes it."""
         places, state = self.making.config.places, self.making.state
-        if places is None:
-            return
+        assert places is not None
         large = {name: state.new_file("work", ".job") for name in places.again}
         try:
             divide(self.making.engine, places, job, {**jobs, **large})
@@ -246,40 +272,46 @@ class _Tries:
 
     def whole(self) -> Published:
         """What the program says of the whole job."""
-        return self._line(self.plan, self.publishing.showing.copy)
+        return self._line(self.plan, self.publishing.slices())
 
     def entries(self, low: int, high: int) -> int:
         """How many entries between two places, of what is shown, the program doesn't accept."""
-        showing = self.publishing.showing
-        first, last = showing.at(low), showing.at(high - 1)
-        line = self._line(self.plan, lambda job: showing.copy(job, first, last))
+        line = self._line(self.plan, self.publishing.slices(low, high))
         return line.unread + line.uncovered + line.unenrolled + line.late
 
     def issuers(self, low: int, high: int) -> int:
         """How many issuers between two places of the plan the program doesn't enrol."""
         some = dict(list(self.plan.crls.items())[low:high])
-        return high - low - self._line(Plan(self.plan.ranges, some), lambda job: None).issuers
+        return high - low - self._line(Plan(self.plan.ranges, some), ()).issuers
 
-    def _line(self, plan: Plan, entries: Callable[[JobWriter], None]) -> Published:
+    def _line(self, plan: Plan, slices: Sequence[Slice]) -> Published:
         """What the program says of a job that isn't published."""
-        publishing, making = self.publishing, self.publishing.making
-        places = making.config.places if self.late else None
-        job, part, ledger = (making.state.new_file("work", suffix) for suffix in (".job", ".part", ".ledger"))
-        jobs = {WHOLE: job} if places is None else publishing._new_files("work", ".job")
-        made: dict[str, Brought] = {}
+        if not self.late:
+            return sums.sliced([self._snapshot(plan, some) for some in [[each] for each in slices] or [[]]])
+        publishing, made = self.publishing, dict[str, Brought]()
+        jobs = publishing._new_files("work", ".job")
         try:
-            publishing.write(job, plan, entries)
-            if not self.late:
-                return making.engine.snapshot(job, part, ledger, making.config.workers)
-            made = publishing.run(job, jobs, "work")
-            return sums.summed(places, {name: each.line for name, each in made.items()})
+            publishing.write_jobs(jobs, plan, slices)
+            made = publishing.run(jobs, "work")
+            return sums.summed(publishing.making.config.places, {name: each.line for name, each in made.items()})
         except _Refusal as refusal:
             raise refusal.fault from refusal
         finally:
-            for path in (job, part, ledger, *jobs.values()):
+            for path in jobs.values():
                 path.unlink(missing_ok=True)
             for each in made.values():
                 each.unlink()
+
+    def _snapshot(self, plan: Plan, slices: Sequence[Slice]) -> Published:
+        """What the program says of a snapshot of slices that a job takes."""
+        making = self.publishing.making
+        job, part, ledger = (making.state.new_file("work", suffix) for suffix in (".job", ".part", ".ledger"))
+        try:
+            self.publishing.write(job, plan, slices)
+            return making.engine.snapshot(job, part, ledger, making.config.workers)
+        finally:
+            for path in (job, part, ledger):
+                path.unlink(missing_ok=True)
 
 
 def halves(

@@ -18,6 +18,7 @@ _TABLES = {
     "late": "id INTEGER PRIMARY KEY",
     "aside": "id INTEGER PRIMARY KEY",
     "shown": "id INTEGER PRIMARY KEY",
+    "placed": "id INTEGER PRIMARY KEY, place TEXT NOT NULL",
 }
 
 
@@ -32,7 +33,8 @@ class Run:
 
 class Showing:
     """What the next job shows, as temporary tables: `shown` holds the entries (id), `late` those that are late, `aside`
-    those that the program counts otherwise; `covered` and `enrolled` say by what they are chosen."""
+    those that the program counts otherwise; `placed` has their places, where these were asked for; `covered` and
+    `enrolled` say by what they are chosen."""
 
     def __init__(self, state: State, generation: int, cut: int) -> None:
         """For the newest chain, of which `generation` is the number; what expired before `cut` isn't shown."""
@@ -70,23 +72,40 @@ class Showing:
     def fresh(self, places: Places | None) -> dict[str, int]:
         """How many identities that no ledger holds would be shown, by places."""
         query = f"""
-            SELECT DISTINCT e.issuer, e.serial FROM ({self._chosen()}) c CROSS JOIN entry e ON e.id = c.id
+            SELECT DISTINCT e.issuer, e.serial, c.place AS place FROM ({self._at(places)}) c
+            CROSS JOIN entry e ON e.id = c.id
             WHERE NOT EXISTS (SELECT 1 FROM identity k WHERE k.issuer = e.issuer AND k.serial = e.serial)"""
-        return self._by_place(places, query)
+        return self._counted(query)
+
+    def entries(self, places: Places | None) -> dict[str, int]:
+        """How many entries would be shown, by places."""
+        return self._counted(self._at(places))
+
+    def _counted(self, query: str) -> dict[str, int]:
+        """How many rows of a query are at each place."""
+        return dict(self._db.execute(f"SELECT place, count(*) FROM ({query}) GROUP BY place", self._words))
+
+    def _at(self, places: Places | None) -> str:
+        """The query of what would be shown (id, place). An entry's place, which takes long, is found once."""
+        if places is None:
+            return f"SELECT id, '{WHOLE}' AS place FROM ({self._chosen()})"
+        self._db.create_function("place_of", 2, places.place_of, deterministic=True)
+        self._db.execute(
+            f"""INSERT INTO temp.placed SELECT c.id, place_of(i.key, e.serial) FROM ({self._chosen()}) c
+            CROSS JOIN entry e ON e.id = c.id CROSS JOIN issuer i ON i.id = e.issuer
+            WHERE c.id NOT IN (SELECT id FROM temp.placed)""",
+            self._words,
+        )
+        return f"SELECT c.id AS id, a.place AS place FROM ({self._chosen()}) c CROSS JOIN temp.placed a ON a.id = c.id"
 
     def held(self, places: Places | None) -> dict[str, int]:
         """How many identities the ledgers hold, by places."""
-        return self._by_place(places, "SELECT issuer, serial FROM identity")
-
-    def _by_place(self, places: Places | None, identities: str) -> dict[str, int]:
-        """How many of the identities (issuer, serial) of a query are at each place."""
-        if places is None:
-            (count,) = self._db.execute(f"SELECT count(*) FROM ({identities})", self._words).fetchone()
-            return {WHOLE: int(count)}
-        self._db.create_function("place_of", 2, places.place_of, deterministic=True)
-        query = f"""SELECT place_of(i.key, k.serial), count(*) FROM ({identities}) k
-            CROSS JOIN issuer i ON i.id = k.issuer GROUP BY 1"""
-        return dict(self._db.execute(query, self._words))
+        find = f"'{WHOLE}'"
+        if places is not None:
+            find = "place_of(i.key, k.serial)"
+            self._db.create_function("place_of", 2, places.place_of, deterministic=True)
+        query = f"SELECT {find} AS place FROM identity k CROSS JOIN issuer i ON i.id = k.issuer"
+        return self._counted(query)
 
     def select(self) -> int:
         """Chooses what is shown; how many entries these are."""
@@ -103,6 +122,13 @@ class Showing:
         """The entry (id) at a place of what is shown, from 0."""
         query = "SELECT id FROM temp.shown ORDER BY id LIMIT 1 OFFSET ?"
         return int(self._db.execute(query, (place,)).fetchone()[0])
+
+    def slices(self, size: int, low: int = 0, high: int | None = None) -> list[tuple[int, int]]:
+        """Of what is shown, from a place (0) up to another one (the end), slices of so many entries at most, in order:
+        the first and the last entry (ids) of each."""
+        if high is None:
+            (high,) = self._db.execute("SELECT count(*) FROM temp.shown").fetchone()
+        return [(self.at(start), self.at(min(start + size, high) - 1)) for start in range(low, high, size)]
 
     def runs(self, low: int, high: int) -> Iterator[Run]:
         """The records of what is shown from the entry `low` to `high` (ids), in this order."""
@@ -122,7 +148,7 @@ class Showing:
         if end:
             yield Run(now, start, end)
 
-    def copy(self, job: JobWriter, low: int = 0, high: int = 2**63 - 1) -> None:
+    def copy(self, job: JobWriter, low: int, high: int) -> None:
         """Writes what is shown, from the entry `low` to `high` (ids), into a job."""
         with _Segments(self._state) as segments:
             for run in self.runs(low, high):

@@ -4,7 +4,8 @@ Each entry stands at one place, and each issuer at one by issuer, at all by iden
 job and its places, its entries would be late afterwards, and nobody would see it.
 """
 
-from collections.abc import Mapping
+from collections.abc import Mapping, Sequence
+from dataclasses import replace
 
 from ..engine import Published
 from ..places import Places
@@ -31,8 +32,18 @@ def summed(places: Places | None, lines: Mapping[str, Published]) -> Published:
             told = ", ".join(f"{name} {lines[name].issuers}" for name in names)
             raise NoEpoch(f"places by identity have the same issuers, and these have others: {told}", _REMEDY)
         issuers += counts.pop()
-    added = {name: sum(getattr(line, name) for line in lines.values()) for name in _ADDED}
-    return Published(epoch=first.epoch, part=first.part, issuers=issuers, **added)
+    return replace(_added(tuple(lines.values())), issuers=issuers)
+
+
+def sliced(lines: Sequence[Published]) -> Published:
+    """The line of a job, of those of its slices, which are snapshots with the same CRLs. It counts an identity once for
+    each slice that has it."""
+    return _added(lines)
+
+
+def _added(lines: Sequence[Published]) -> Published:
+    """The first line, with what is counted in all of them."""
+    return replace(lines[0], **{name: sum(getattr(line, name) for line in lines) for name in _ADDED})
 
 
 def test_universe(line: Published, universe: int) -> None:
