@@ -25,6 +25,7 @@ from clubcard.engine_lines import Block
 from clubcard.jobs import JobWriter, entry_record
 from clubcard.layout import kinds, part, sizes
 from clubcard.layout.fields import Fields
+from clubcard.layout.ledger import identities_in
 from clubcard.manifest import Coverage, Issuer, to_json
 from inspected import DATE, ELM, JOBS, OAK
 from test_manifest import MANIFEST
@@ -143,7 +144,7 @@ def test_ledger(files: inspected.Made) -> None:
     for name in files.ledgers:
         facts, ledger = report(name)["facts"], FILES.read_ledger(name.read_bytes())
         assert (facts["version"], facts["part_count"], facts["epoch"]) == (2, len(ledger.parts), ledger.parts[-1].epoch)
-        assert facts["identities"] == facts["identity_count"] == len(ledger.items)
+        assert facts["identities"] == facts["identity_count"] == identities_in(name) == len(ledger.items)
         assert facts["revoked"] == sum(item.last is not None for item in ledger.items)
         assert facts["dated"] == sum(item.until is not None for item in ledger.items)
         for place, (told, kept) in enumerate(zip(facts["parts"], ledger.parts)):

@@ -221,8 +221,9 @@ def test_a_place_with_more_than_a_job_takes(tmp_path: Path) -> None:
     assert (row.waiting, row.alarms) == (0, ()) and placed.world.ask(placed.seen) == placed.truth()
 
 
-def test_places_that_are_to_be_split(tmp_path: Path) -> None:
-    """Those alone that hold more than two thirds of what they take are named, and behind a split none is."""
+def test_places_that_are_to_be_split(tmp_path: Path, monkeypatch: pytest.MonkeyPatch) -> None:
+    """Those alone that hold more than two thirds of what they take are named, and behind a split none is. No place of
+    what they hold is asked for."""
     placed = Placed.of(tmp_path)
     sizes = {name: sum(place_of(each) == name for each in placed.entries(1)) for name in PLACES.names()}
     limit = max(sizes.values()) + 1
@@ -230,7 +231,9 @@ def test_places_that_are_to_be_split(tmp_path: Path) -> None:
     assert placed.epoch(1).alarms == ()
     named = [name for name, size in sizes.items() if 3 * size > 2 * limit]
     assert 0 < len(named) < len(sizes)
-    row = placed.world.make(at(8), placed.lists(1)).row
+    with monkeypatch.context() as patch:
+        patch.delattr(Places, "place_of")
+        row = placed.world.make(at(8), placed.lists(1)).row
     assert [alarm.text.partition(" holds")[0] for alarm in row.alarms] == [f"place {name}" for name in named]
     placed.publish()
     finer = Places("issuer", COUNT, {f"{number:04}": 4 for number in range(COUNT)})

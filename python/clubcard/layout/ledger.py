@@ -1,6 +1,8 @@
 """A ledger (docs/FORMATS.md, "Ledger")."""
 
+import os
 from dataclasses import dataclass, field
+from pathlib import Path
 
 from ..engine_lines import Range
 from .fields import KEY, Fields
@@ -54,6 +56,17 @@ class LedgerFound:
         """The counts of all issuers together."""
         counts = self.issuers.values()
         return Counts(*(sum(getattr(each, name) for each in counts) for name in ("identities", "revoked", "dated")))
+
+
+def identities_in(path: Path) -> int:
+    """How many identities a ledger says that it has. Of what stands before only the counts are read, and nothing is
+    tested: 0 where the file is too short."""
+    with open(path, "rb") as file:
+        for _ in range(int.from_bytes(file.read(len(MAGIC) + 2)[-1:], "big")):
+            file.seek(8 + KEY, os.SEEK_CUR)
+            for width, size in ((2, KEY + 16), (4, KEY)):
+                file.seek(int.from_bytes(file.read(width), "big") * size, os.SEEK_CUR)
+        return int.from_bytes(file.read(4), "big")
 
 
 def read_ledger(fields: Fields, found: LedgerFound) -> None:

@@ -5,6 +5,7 @@ from dataclasses import dataclass, field, replace
 from functools import cached_property
 
 from ..crls import Crl
+from ..layout.ledger import identities_in
 from ..places import WHOLE, names_of
 from ..times import nearest_iso
 from . import rules
@@ -43,7 +44,7 @@ def begun(making: Making, enrolment: Enrolment) -> Plan:
 
 def lacking(making: Making, showing: Showing, newest: Newest, plan: Plan) -> int:
     """How many identities more the ledgers would need for all that could be covered."""
-    fit = _Fit(making, showing)
+    fit = _Fit(making, showing, newest)
     if making.waiting() <= fit.least_room:
         return 0
     showing.enrol(plan.crls)
@@ -61,7 +62,7 @@ def fitted(making: Making, showing: Showing, newest: Newest | None, plan: Plan) 
     """
     plan, standing = _with_crls(making, plan), newest.ranges if newest else {}
     logs = _followed(making, standing)
-    fit = _Fit(making, showing)
+    fit = _Fit(making, showing, newest)
     for name in fit.near_full():
         text = f"more than two thirds of the {making.limits.identities} identities that it takes"
         making.alarms.add("room", f"{_told(name)} holds {text}: {_split(making)}")
@@ -91,6 +92,7 @@ class _Fit:
 
     making: Making
     showing: Showing
+    newest: Newest | None
     why: str = ""
     full: frozenset[str] = frozenset()
     """The places whose jobs or ledgers have no room."""
@@ -114,9 +116,8 @@ class _Fit:
         return not lacking
 
     def near_full(self) -> list[str]:
-        """The places whose ledgers hold more than two thirds of what they take. Only then are they counted."""
-        limit = self.making.limits.identities
-        return [name for name, room in self.room.items() if 3 * room < limit] if 3 * self.held > 2 * limit else []
+        """The places whose ledgers hold more than two thirds of what they take."""
+        return [name for name, room in self.room.items() if 3 * room < self.making.limits.identities]
 
     @cached_property
     def fits_all(self) -> bool:
@@ -124,21 +125,17 @@ class _Fit:
         return self.making.waiting() <= min(self.making.limits.entries, self.least_room)
 
     @cached_property
-    def held(self) -> int:
-        """How many identities all ledgers hold."""
-        return int(self.making.db.execute("SELECT count(*) FROM identity").fetchone()[0])
-
-    @cached_property
     def room(self) -> dict[str, int]:
         """How many identities more each ledger takes, by places."""
-        held, limit = self.showing.held(self.making.config.places), self.making.limits.identities
-        return {name: max(0, limit - held.get(name, 0)) for name in names_of(self.making.config.places)}
+        limit = self.making.limits.identities
+        if self.newest is None:
+            return dict.fromkeys(names_of(self.making.config.places), limit)
+        return {name: max(0, limit - identities_in(held.ledger)) for name, held in self.newest.places.items()}
 
-    @cached_property
+    @property
     def least_room(self) -> int:
         """How many identities more fit, wherever their places are."""
-        rough = max(0, self.making.limits.identities - self.held)
-        return rough if self.making.waiting() <= rough else min(self.room.values())
+        return min(self.room.values())
 
     def lacking(self) -> dict[str, int]:
         """The places whose ledgers lack room for what is shown, with the room that they have."""

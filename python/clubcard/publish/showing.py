@@ -98,15 +98,6 @@ class Showing:
         )
         return f"SELECT c.id AS id, a.place AS place FROM ({self._chosen()}) c CROSS JOIN temp.placed a ON a.id = c.id"
 
-    def held(self, places: Places | None) -> dict[str, int]:
-        """How many identities the ledgers hold, by places."""
-        find = f"'{WHOLE}'"
-        if places is not None:
-            find = "place_of(i.key, k.serial)"
-            self._db.create_function("place_of", 2, places.place_of, deterministic=True)
-        query = f"SELECT {find} AS place FROM identity k CROSS JOIN issuer i ON i.id = k.issuer"
-        return self._counted(query)
-
     def select(self) -> int:
         """Chooses what is shown; how many entries these are."""
         self._db.execute("DELETE FROM temp.shown")
