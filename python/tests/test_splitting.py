@@ -5,9 +5,11 @@ import contextlib
 import io
 import json
 import os
+import re
 import shutil
 import signal
 import sys
+import tomllib
 from collections.abc import Callable, Iterator
 from dataclasses import replace
 from functools import partial
@@ -23,9 +25,10 @@ from clubcard.places import Places, PlacesError, is_split
 from clubcard.publish import splitting
 from clubcard.publish.making import Limits, Making
 from clubcard.publish.run import NO_EPOCH, WITH_ALARMS, Outcome, run, split
-from followed import Web
+from asked import ctl
+from followed import CAPACITY, Web
 from placed import COUNT, LARGE, PLACES, Placed
-from spooled import at, dumped
+from spooled import at, dumped, key_of, log_of
 from test_placed import shown
 from test_update_kills import run_once as update_once
 from test_update_places import Follower, Site
@@ -310,3 +313,63 @@ def test_clients(tmp_path: Path, web: Web, unused: Client) -> None:
     outcome = client.run(2)
     assert outcome.status == 4 and "were begun with the places" in outcome.line
     client.test_has(3)
+
+
+def test_a_device(tmp_path: Path, web: Web, unused: Client) -> None:
+    """It keeps no places: it answers as before while each run names the line to write, and with this alone the stores
+    of places are there, which go on; the device stays. Both runs are killed at each step."""
+    site = Site(Placed.of(tmp_path / "publisher", None), [], [])
+    site.placed.epoch(1)
+    note(site)
+    assert split_to(site.placed, Places("issuer", 1, {"0000": 2})).status == 0
+    note(site)
+    site.placed.epoch(2)
+    note(site)
+    client = Follower(tmp_path / "client", site, web.base, {"device": "device", "capacity": CAPACITY})
+    device, known = client.folder / "device", client.folder / "state" / "manifest.json"
+    web.show(site.pages[0])
+    assert client.run(1).status == 0
+    held, was = device.read_bytes(), dict(client.words)
+    web.show(site.pages[1])
+
+    def killed_each(status: int, behind: Callable[[], None]) -> None:
+        """Kills a run at each of its steps, in the folder as it is now and is again then; whole it has a status."""
+        before = tmp_path / f"before {status}"
+        shutil.copytree(client.folder, before)
+        found, steps = update_once(client, at(8) + 1, unused, 0)  # type: ignore[arg-type]
+        assert found == status and steps > 10
+        for last in range(1, steps + 2):
+            shutil.rmtree(client.folder)
+            shutil.copytree(before, client.folder)
+            if last <= steps:
+                assert update_once(client, at(8) + 1, unused, last)[0] == -signal.SIGKILL  # type: ignore[arg-type]
+                assert device.read_bytes() == held
+                behind()
+
+    def refused() -> None:
+        """The next run names the line, and the device is asked by its manifest still."""
+        client.words = was
+        outcome = client.run(2)
+        line = re.search("write (store = .*) in place of `device` and `capacity`", outcome.line)
+        assert outcome.status == 2 and line is not None
+        assert device.read_bytes() == held and known.read_bytes() == site.text(1)
+        client.words = tomllib.loads(line[1])
+
+    def behind_refused() -> None:
+        refused()
+        client.update(2)
+        client.words = was
+
+    killed_each(2, behind_refused)
+    refused()
+    for one, truth in list(zip(site.placed.seen, site.truths[0]))[::5]:
+        words = ["--issuer", key_of(one.issuer).hex(), "--serial", f"0x{one.serial.hex()}"]
+        words += ["--log", log_of(one.log).hex(), "--time", str(one.time), "--manifest", str(known), str(device)]
+        assert ctl("ask", *words).stdout.split()[0] == truth
+    killed_each(0, lambda: client.update(2) if client.epoch_there() is None else client.test_says(2))
+    client.update(2)
+    web.show(site.pages[2])
+    client.update(3)
+    assert device.read_bytes() == held
+    client.words = was
+    assert "belongs to the store" in client.run(3).line

@@ -6,7 +6,7 @@ import re
 import shutil
 import signal
 from collections.abc import Iterator
-from dataclasses import dataclass
+from dataclasses import dataclass, field
 from pathlib import Path
 from typing import Any
 
@@ -84,14 +84,16 @@ class Follower:
     folder: Path
     site: Site
     base: str
+    words: dict[str, Any] = field(default_factory=lambda: {"store": "stores"})
+    """Where CONFIG has the stores."""
 
     @property
     def place(self) -> Path:
-        return self.folder / "stores"
+        return Path(self.folder, self.words["store"])
 
     def config(self, **more: Any) -> Config:
         key = minisign.public_line(self.site.placed.world.folder.parent / "publisher.pub")
-        words = {"site": self.base, "key": key, "program": PROGRAM, "store": "stores"} | more
+        words = {"site": self.base, "key": key, "program": PROGRAM} | self.words | more
         self.folder.mkdir(exist_ok=True)
         path = self.folder / "client.toml"
         path.write_text("".join(f"{key} = {json.dumps(value)}\n" for key, value in words.items() if value is not None))

@@ -1,6 +1,7 @@
 """One run of the updater: the site's manifest is taken, the parts that are missing are, and the store becomes the
 manifest's."""
 
+import json
 from collections.abc import Sequence
 from dataclasses import dataclass
 from itertools import islice
@@ -139,7 +140,10 @@ def _test_kind(config: Config, manifest: Manifest) -> None:
         if config.place.is_dir():
             raise SetUp(f"{config.place} is a folder, and the site has one store: name a file by `store`")
     elif config.capacity is not None:
-        raise SetUp(f"{config.path}: the site has {told(manifest.places)}: write `store` in place of `device`")
+        was = f"the site has {told(manifest.places)}, and a device keeps one store"
+        new = json.dumps(f"{config.place}.stores", ensure_ascii=False)
+        remedy = f"write store = {new} in place of `device` and `capacity`, a folder which programs open then"
+        raise SetUp(f"{config.path}: {was}: {remedy}; the device stays as it is")
     elif config.place.exists() and not config.place.is_dir():
         was = f"{config.place} is a file, and the site has {told(manifest.places)}"
         raise SetUp(f"{was}: move this file away and run again: then a folder of stores is there, which programs open")

@@ -40,7 +40,8 @@ class Accepted:
     site: str | None
     """The site of CONFIG; None where an earlier version wrote the file, as with `place`."""
     place: str | None
-    """Where CONFIG has the store, as it is seen from the state's folder."""
+    """Where CONFIG has the store, as it is seen from the state's folder; None where that is a device, and the manifest
+    has places."""
 
     @property
     def version(self) -> tuple[int, int]:

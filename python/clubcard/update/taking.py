@@ -36,6 +36,9 @@ def take(config: Config, state: State, client: Client, now: int) -> Accepted:
         taken = replace(trusted, etag=etag or answer.etag, site=config.site, place=config.place_from_state)
     else:
         taken = _verified(config, state, client, answer, trusted)
+    if config.capacity is not None and taken.manifest.places is not None:
+        # No device keeps places: the folder that CONFIG is to name in its stead takes this state over.
+        taken = replace(taken, place=None)
     if known is not None:
         _test_order(taken, known, state.known)
     why = past(config, taken.manifest, now)
