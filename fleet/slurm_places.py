@@ -1,6 +1,7 @@
 #!/usr/bin/python3
-"""A chain of three epochs at 16 places by issuer, one of them cut again by identity, over the Slurm of slurm_test.py:
-two chains with a fault in each epoch, held against a third one without, on this machine alone. Run it by hand, as root:
+"""A chain of five epochs at 16 places by issuer, one of them cut again by identity, over the Slurm of slurm_test.py:
+two chains with a fault in each epoch, held against a third one without, on this machine alone. The fourth epoch rebases
+all chains, the fifth splits those of the large place. Run it by hand, as root:
 
     fleet/slurm_places.py [CERTIFICATES [ASKED]]
 
@@ -39,6 +40,7 @@ from fleet.tests.sized_epochs import (  # noqa: E402
     LARGE,
     History,
     Truth,
+    again_of,
     is_referred,
     make_sized,
     write_epoch,
@@ -60,17 +62,28 @@ def task_fails(world: World) -> None:
     assert slurm.begin(world).wait(MOST) == 0
 
 
+def task_dies(world: World, command: str) -> None:
+    """A task is killed half done."""
+    world.order(f"kill-{command}")
+    assert slurm.begin(world).wait(MOST) == 0
+    assert not (world.faults / f"kill-{command}").exists(), "no task was killed"
+
+
 Fault = tuple[str, Callable[[World], None]]
 FAULTS: Sequence[Sequence[Fault]] = (
     (
         ("the host of a `snapshot` dies", partial(slurm.host_dies, command="snapshot")),
         ("slurmd dies, its `merge` goes on late", partial(slurm.daemon_dies, command="merge")),
         ("the host is cut off, its `gather` goes on late", slurm.host_is_cut_off),
+        ("the host is cut off, its `rebase` goes on late", partial(slurm.host_is_cut_off, command="rebase")),
+        ("a `split` is killed half done", partial(task_dies, command="split")),
     ),
     (
         ("the workflow is killed, and begun again at once", slurm.workflow_dies),
         ("the workflow is interrupted, and begun again", partial(slurm.workflow_dies, number=SIGINT)),
         ("all tasks of a place fail, and the run is begun again", task_fails),
+        ("cut off in a `rebase`, and the workflow is killed and begun again", partial(slurm.both, command="rebase")),
+        ("the host is cut off, its `split` goes on late", partial(slurm.host_is_cut_off, command="split")),
     ),
 )
 
@@ -102,7 +115,8 @@ def place_of(issuer: bytes, serial: bytes, kept: dict[bytes, str]) -> str:
     if issuer not in kept:
         kept[issuer] = number_name(place(By.ISSUER, issuer, serial, COUNT))
     found = kept[issuer]
-    return f"{found}.{number_name(place(By.IDENTITY, issuer, serial, AGAIN))}" if found == LARGE else found
+    again = again_of(EPOCHS[-1])
+    return f"{found}.{number_name(place(By.IDENTITY, issuer, serial, again))}" if found == LARGE else found
 
 
 def asked(truth: Truth, folder: Path) -> tuple[int, int, int]:
@@ -142,7 +156,7 @@ def is_counted(truth: Truth, world: World) -> bool:
     unread = {name: said["unread"] for name, said in made["said"].items() if said["unread"]}
     print(f"epoch {made['epoch']}: {sum(counts.values())} entries, {len(made['said'])} places, {made['sums']}")
     found = {kind: count for kind, count in made["sums"].items() if count and kind not in ("universe", "revoked")}
-    return found == dict(counts) and unread == {min(made["said"]): counts["unread"]}
+    return found == dict(counts) and unread == ({min(made["said"]): counts["unread"]} if counts["unread"] else {})
 
 
 def is_true(history: History, worlds: Sequence[World], most: int) -> bool:

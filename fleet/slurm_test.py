@@ -111,9 +111,9 @@ def workflow_dies(world: World, number: int = signal.SIGKILL) -> None:
     assert begin(world).wait(MOST) == 0
 
 
-def both(world: World) -> None:
+def both(world: World, command: str = "gather") -> None:
     """a host is cut off, and the workflow is killed and begun again; the task goes on late"""
-    world.order("hold-gather")
+    world.order(f"hold-{command}")
     running = begin(world)
     host = held(world)
     cluster("cut", host)

@@ -1,4 +1,4 @@
-"""Three epochs of issuers of very different sizes: their pages, CRLs and EPOCH, and the truth of the whole.
+"""Five epochs of issuers of very different sizes: their pages, CRLs and EPOCH, and the truth of the whole.
 
 A certificate is a number, of whose digest all else comes. The truth is worked out over numbers, by its definition: the
 program, its files and tools/reference.py have no part in it.
@@ -18,11 +18,13 @@ from reference import Job, T, issuer_place
 
 from .made_epochs import FAULTY, LOGS, World, page_of
 
-EPOCHS = (1, 2, 3)
+EPOCHS = (1, 2, 3, 4, 5)
+REBASED, SPLIT = 4, 5
+"""In which epoch all chains are rebased, and in which those of the large place are split."""
 ISSUERS = [sha256(b"sized issuer %d" % each).digest() for each in range(40)]
 COUNT, AGAIN = 16, 4
 LARGE = f"{issuer_place(ISSUERS[0], COUNT):04}"
-"""The place that is cut again."""
+"""The place that is cut again, and into twice as many from SPLIT on."""
 SPAN = 1 << 30
 """For how many milliseconds an epoch's certificates come."""
 _BOUNDS = [int((1 - 0.7**each) * (1 << 32)) for each in range(1, len(ISSUERS))]
@@ -69,7 +71,7 @@ def is_listed(found: Certificate, epoch: int) -> bool:
 
 @dataclass(frozen=True)
 class History:
-    """Three epochs with so many certificates, half of which come in the first, and the others in equal parts."""
+    """All epochs with so many certificates, half of which come in the first, and the others in equal parts."""
 
     certificates: int
     step: int = 1
@@ -81,7 +83,8 @@ class History:
 
     def born(self, epoch: int) -> range:
         """The numbers that come in an epoch."""
-        ends = [0, self.certificates // 2, self.certificates * 3 // 4, self.certificates]
+        later = len(EPOCHS) - 1
+        ends = [0, *(self.certificates * (later + each) // (2 * later) for each in range(len(EPOCHS)))]
         return range(ends[epoch - 1], ends[epoch], self.step) if epoch else range(0)
 
     def shown(self, epoch: int) -> Iterator[Shown]:
@@ -224,14 +227,23 @@ class _Pages:
         self._count, self._entries = self._count + 1, []
 
 
+def again_of(epoch: int) -> int:
+    """Into how many places the large one is cut."""
+    return 2 * AGAIN if epoch >= SPLIT else AGAIN
+
+
 def make_sized(folder: Path, epoch: int, lines: Iterable[str], before: list[World]) -> World:
     """An epoch of a chain, over pages and CRLs that were written."""
     faults = folder / "faults"
     faults.mkdir(parents=True)
     text = [f"epoch = {epoch}", f"moment = {T}", f'program = "{FAULTY}"', "workers = 2", "pages = 128"]
-    text += ["[places]", 'by = "issuer"', f"count = {COUNT}", f"again = {{ {LARGE} = {AGAIN} }}"]
+    text += ["[places]", 'by = "issuer"', f"count = {COUNT}", f"again = {{ {LARGE} = {again_of(epoch)} }}"]
     if before:
         folders = ", ".join(f'"{world.folder}"' for world in before)
         text += ["[before]", f"folders = [{folders}]"]
+    if epoch in (REBASED, SPLIT):
+        text += ["[rebase]", f"moment = {T}"]
+    if epoch == SPLIT:
+        text += [f"places = {[f'{LARGE}.{number:04}' for number in range(AGAIN)]}"]
     (folder / "epoch.toml").write_text("\n".join([*text, *lines]) + "\n")
     return World(folder / "epoch.toml", folder / "made", None, faults)
