@@ -49,7 +49,7 @@ fn head_in<D: Depot>(alloc: Global, depot: &mut D, name: &str) -> Result<OpenJob
     ensures only_reads { OnlyReads D.Depot depot.old depot.new }
 {
     let bytes = read_up_to(alloc, depot, name, usize::MAX)?;
-    Ok(OpenJob::new(alloc, bytes)?)
+    Ok(OpenJob::new(bytes)?)
 }
 
 /// Refuses a page of more bytes than a page may have. No memory is taken.
@@ -111,7 +111,7 @@ fn piece_entries<D: Depot>(
     ensures only_reads { OnlyReads D.Depot depot.old depot.new }
 {
     let bytes = read_up_to(alloc, depot, name, usize::MAX)?;
-    let piece = read_piece(alloc, bytes)?;
+    let piece = read_piece(bytes)?;
     if piece.epoch != epoch {
         let given = piece.epoch;
         return Err(FileFault::OtherEpoch { held: epoch, given });

@@ -3,11 +3,8 @@ use Rattle.std.specs.Prelude.{◌≡◌, ℕ, List, length, drop, flat_map, All,
 use Rattle.job_core.specs.declared.bounds.TheConstants.Limits as limits
 use Rattle.job_core.specs.declared.bounds.Limits.{Limits}
 use Rattle.job_core.specs.declared.fault.JobFault.{JobFault}
-use Rattle.job_core.specs.declared.reader.Record.{Record}
-use Rattle.job_core.specs.declared.reader.Record.TheVariants as records
 use Rattle.job_core.specs.JobLayout.{EntryText}
 use Rattle.job_core.specs.JobText.{JobContents, FitsEntry, FitsJob, entry_record, spelling}
-use Rattle.job_core.specs.Pulling.{IsOfBytes}
 use Rattle.gather_core.specs.declared.counting.Tally.{Tally}
 use Rattle.gather_core.specs.declared.job.OpenJob.{OpenJob}
 use Rattle.gather_core.specs.declared.texts.EntryTexts.{EntryTexts}
@@ -40,33 +37,9 @@ pub record Holds (t : EntryTexts) (entries : List EntryText) : Type 0 where
   pub count : t.count ≡ length entries
   pub fit : All FitsEntry entries
 
--- ---- records that are counted
-
-abbrev pub epoch_given : ℕ → Record → ℕ
-epoch_given before (records.Begin epoch moment) = epoch
-epoch_given before (records.Range r) = before
-epoch_given before (records.Crl c) = before
-epoch_given before (records.Entry e) = before
-epoch_given before records.End = before
-
--- how many ranges a record is, and how many entries
-abbrev pub ranges_given : Record → ℕ
-ranges_given (records.Begin epoch moment) = 0
-ranges_given (records.Range r) = 1
-ranges_given (records.Crl c) = 0
-ranges_given (records.Entry e) = 0
-ranges_given records.End = 0
-
-abbrev pub entries_given : Record → ℕ
-entries_given (records.Begin epoch moment) = 0
-entries_given (records.Range r) = 0
-entries_given (records.Crl c) = 0
-entries_given (records.Entry e) = 1
-entries_given records.End = 0
-
 -- so much has the job of the bytes, which are its text; or that is their fault
 abbrev pub Counts : Limits → List ℕ → Result Tally JobFault → Type 0
 Counts limits bytes (Ok n) =
     (j : JobContents) × (raw_job limits bytes ≡ Ok j) × (bytes ≡ spelling j) × FitsJob limits j
     × (n.epoch ≡ j.epoch) × (n.ranges ≡ length j.ranges) × (n.entries ≡ length j.entries)
-Counts limits bytes (Err e) = IsOfBytes e → raw_job limits bytes ≡ Err e
+Counts limits bytes (Err e) = raw_job limits bytes ≡ Err e

@@ -1,11 +1,8 @@
-//! The records of a job that is read one by one, counted.
+//! The records of a job, counted.
 
-ghost use Rattle.std.specs.Prelude.{◌≡◌, ◌≢◌, ◌↔◌, IfErr, IsTrue};
-ghost use Rattle.gather_core.specs.Opened.{Counts, entries_given, epoch_given, ranges_given};
+ghost use Rattle.gather_core.specs.Opened.{Counts};
 
-use job_core::{JobFault, JobReader, Limits, Record};
-use outside_core::{Feed, SliceDepot};
-use std::alloc::Global;
+use job_core::{JobFault, JobRecords, Limits};
 
 /// The epoch of a job, and how many of its records are ranges and entries.
 #[derive(Clone, Copy, Debug)]
@@ -15,65 +12,22 @@ pub struct Tally {
     pub entries: u64,
 }
 
-/// Whether a record is the end of a job.
-pub fn is_end(given: &Record) -> bool
-    ensures { IsTrue result ↔ given.now ≡ Record.End }
+/// What the job of the bytes counts, within these limits; or why they are no job. No memory is taken.
+pub fn count_records(bytes: &[u8], limits: Limits) -> Result<Tally, JobFault>
+    ensures { Counts limits bytes.now result }
 {
-    matches!(given, Record::End)
-}
-
-/// The epoch, once this record is read behind others of a job.
-fn epoch_after(epoch: u64, given: &Record) -> u64
-    ensures { result ≡ epoch_given epoch given.now }
-{
-    match given {
-        Record::Begin { epoch, .. } => *epoch,
-        _ => epoch,
-    }
-}
-
-/// How many ranges a record is.
-fn ranges_of(given: &Record) -> u64
-    ensures { result ≡ ranges_given given.now }
-{
-    match given {
-        Record::Range(_) => 1,
-        _ => 0,
-    }
-}
-
-/// How many entries a record is.
-pub fn entries_of(given: &Record) -> u64
-    ensures { result ≡ entries_given given.now }
-{
-    match given {
-        Record::Entry(_) => 1,
-        _ => 0,
-    }
-}
-
-/// What the job of the bytes counts, within these limits; or why they are no job. The answer is never `ReadFault`.
-pub fn count_records(alloc: Global, bytes: &[u8], limits: Limits) -> Result<Tally, JobFault>
-    ensures exact { Counts limits bytes.now result }
-    ensures no_read { IfErr result (λ e. e ≢ JobFault.ReadFault) }
-{
-    let mut depot = SliceDepot::new(bytes);
-    let mut feed = Feed::new(&mut depot, "");
-    let mut reader = JobReader::new(alloc, limits);
-    let mut epoch = 0u64;
-    let mut ranges = 0u64;
-    let mut entries = 0u64;
+    let (mut records, epoch) = JobRecords::new(bytes, limits)?;
     loop {
-        let given = reader.next(&mut feed)?;
-        if is_end(&given) {
-            return Ok(Tally {
-                epoch,
-                ranges,
-                entries,
-            });
+        match records.next() {
+            Ok(Some(_)) => {}
+            Ok(None) => {
+                return Ok(Tally {
+                    epoch,
+                    ranges: records.ranges(),
+                    entries: records.entries(),
+                });
+            }
+            Err(fault) => return Err(fault),
         }
-        epoch = epoch_after(epoch, &given);
-        ranges += ranges_of(&given);
-        entries += entries_of(&given);
     }
 }

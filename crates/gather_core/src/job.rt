@@ -1,6 +1,6 @@
 //! Jobs whose end isn't written yet.
 
-ghost use Rattle.std.specs.Prelude.{◌≡◌, ◌≢◌, ◌+◌, ◌≤◌, ◌↔◌, List, Ok, Err, IfOk, IfErr, OnOk, IsTrue};
+ghost use Rattle.std.specs.Prelude.{◌≡◌, ◌+◌, ◌≤◌, ◌↔◌, List, Ok, Err, IfOk, IfErr, OnOk, IsTrue};
 ghost use Rattle.job_core.specs.JobLayout.{EntryText};
 ghost use Rattle.job_core.specs.JobText.{JobContents, spelling};
 ghost use Rattle.gather_core.specs.Opened.{count_of, entries_of, epoch_of, Holds, Opens};
@@ -10,7 +10,6 @@ use crate::counting::count_records;
 use crate::texts::EntryTexts;
 use job_core::{JobFault, Limits};
 use octets_core::{NoMemory, put_bytes, put_u8};
-use std::alloc::Global;
 
 /// The text of a job up to the byte that ends it, its epoch, and how many entries it has. What it stands for is the raw
 /// job that it was opened from, with the entries that were put behind its own.
@@ -23,15 +22,13 @@ pub struct OpenJob {
 
 impl OpenJob {
     /// Opens the job of the bytes; or answers the first fault in their order: a field that is short or fails its test,
-    /// or one thing more than a published limit. CRLs and entries are taken as they stand. The answer is never
-    /// `ReadFault`.
-    pub fn new(alloc: Global, bytes: Vec<u8>) -> Result<OpenJob, JobFault>
+    /// or one thing more than a published limit. CRLs and entries are taken as they stand. No memory is taken.
+    pub fn new(bytes: Vec<u8>) -> Result<OpenJob, JobFault>
         ensures ok { IfOk result (λ o. (j : JobContents) × (raw_job Limits.PUBLISHED bytes.items ≡ Ok j)
             × (bytes.items ≡ spelling j) × Opens o j) }
-        ensures err { IfErr result (λ e. e ≢ JobFault.NoMemory → raw_job Limits.PUBLISHED bytes.items ≡ Err e) }
-        ensures no_read { IfErr result (λ e. e ≢ JobFault.ReadFault) }
+        ensures err { IfErr result (λ e. raw_job Limits.PUBLISHED bytes.items ≡ Err e) }
     {
-        let tally = count_records(alloc, &bytes, Limits::PUBLISHED)?;
+        let tally = count_records(&bytes, Limits::PUBLISHED)?;
         let mut text = bytes;
         let _ = text.pop();
         Ok(OpenJob {

@@ -7,7 +7,6 @@ mod job;
 mod page;
 mod texts;
 
-pub use counting::{entries_of, is_end};
 pub use fault::PageFault;
 pub use job::OpenJob;
 pub use page::{MAX_DATA, MAX_PAGE, PageEntry, read_page};

@@ -1,6 +1,6 @@
 //! Entries as they stand, to be put behind those of a job.
 
-ghost use Rattle.std.specs.Prelude.{◌≡◌, ◌≢◌, ◌++◌, ◌≤◌, length, map, All};
+ghost use Rattle.std.specs.Prelude.{◌≡◌, ◌++◌, ◌≤◌, length, map, All};
 ghost use Rattle.std.specs.Prelude.{Ok, Err, IfOk, IfErr, OnOk};
 ghost use Rattle.job_core.specs.JobText.{JobContents, entry_record};
 ghost use Rattle.gather_core.specs.Pages.{EntryFits, fields_of};
@@ -94,14 +94,14 @@ fn piece_limits() -> Limits
     }
 }
 
-/// The piece that the bytes are, a job without CRLs; or the first fault in their order, as `OpenJob::new` answers it.
-pub fn read_piece(alloc: Global, bytes: Vec<u8>) -> Result<Piece, JobFault>
+/// The piece that the bytes are, a job without CRLs; or the first fault in their order, as `OpenJob::new` answers it. No
+/// memory is taken.
+pub fn read_piece(bytes: Vec<u8>) -> Result<Piece, JobFault>
     ensures ok { IfOk result (λ p. (j : JobContents) × (raw_job piece_limits bytes.items ≡ Ok j)
         × (p.epoch ≡ j.epoch) × Holds p.entries j.entries) }
-    ensures err { IfErr result (λ e. e ≢ JobFault.NoMemory → raw_job piece_limits bytes.items ≡ Err e) }
-    ensures no_read { IfErr result (λ e. e ≢ JobFault.ReadFault) }
+    ensures err { IfErr result (λ e. raw_job piece_limits bytes.items ≡ Err e) }
 {
-    let tally = count_records(alloc, &bytes, piece_limits())?;
+    let tally = count_records(&bytes, piece_limits())?;
     let mut text = bytes;
     let _ = text.pop();
     Ok(Piece {

@@ -1,8 +1,7 @@
 -- A record that is read off a feed fits its fields, also where files aren't told.
-use Rattle.std.proofs.Common.{◌≡◌, ℕ, ◌+◌, ◌-◌, ◌≤◌, ◌<◌, ◌^◌, List, [], ◌++◌, length, get_or, take, drop, replicate, true, false, Option, Some, None, Ok, refl, sym, ap, subst, ◌∙◌, length-append, arith, inl, inr}
+use Rattle.std.proofs.Common.{◌≡◌, ℕ, ◌-◌, List, ◌++◌, length, get_or, take, drop, replicate, false, Option, Some, None, Ok, refl, sym, ap, subst, ◌∙◌, length-append, arith, inl, inr}
 use Rattle.std.proofs.lemmas.Bool.{cases_lt}
 use Rattle.std.proofs.lemmas.List.{take_all, drop_at, length-replicate, get_or-replicate, get_or_append_left, get_or-drop}
-use Rattle.octets_core.specs.Position.{piece}
 use Rattle.octets_core.proofs.Texts.{IsBytes}
 use Rattle.outside_core.specs.declared.depot.Depot.{Ghosts}
 use Rattle.outside_core.specs.declared.feed.Feed.{Feed}
@@ -14,7 +13,7 @@ use Rattle.job_core.specs.declared.raw.RawCrl.{RawCrl}
 use Rattle.job_core.specs.declared.raw.RawEntry.{RawEntry}
 use Rattle.job_core.specs.declared.records.Item.{Item as Taken}
 use Rattle.job_core.specs.declared.records.Item.TheVariants as takens
-use Rattle.job_core.specs.JobLayout.{HeldSoFar, Item, OneRange, OneCrl, OneEntry, next_item}
+use Rattle.job_core.specs.JobLayout.{HeldSoFar, next_item}
 use Rattle.job_core.specs.JobText.{FitsItem, FitsCrl, FitsEntry, crl_held, entry_held}
 use Rattle.job_core.specs.Pulling.{AreBytes, Lies, Fetches}
 use Rattle.job_core.specs.Records.{item_of_record, some_record}

@@ -25,7 +25,7 @@ use Rattle.job_core.specs.declared.reader.Record.TheVariants as gives
 use Rattle.job_core.specs.Partial.{held_in}
 use Rattle.outside_core.specs.declared.depot.Depot.{Ghosts}
 use Rattle.outside_core.specs.declared.feed.Feed.{Feed}
-use Rattle.job_core.specs.Reader.{no_serials, Begins, StandsAt, StandsFor, text_of, GivesNext, ReadsNext}
+use Rattle.job_core.specs.Reader.{no_serials, with_record, Begins, StandsAt, StandsFor, text_of, GivesNext, ReadsNext}
 use Rattle.job_core.specs.Pulling.{AreBytes, IsOfBytes}
 use Rattle.job_core.proofs.Steps.{Advances, next-advances, opening-advances, fails, ends}
 use Rattle.job_core.proofs.Passing.{texts_of, passes}
@@ -106,9 +106,6 @@ pass-more limits h n (y ∷ xs) x le pass fits = (pass.0, pass.1, pass-more limi
 held-more : (h : HeldSoFar) (xs : List Item) (x : Item) → held_behind h (xs ++ x ∷ []) ≡ with_item (held_behind h xs) x
 held-more h [] x = refl
 held-more h (y ∷ xs) x = held-more (with_item h y) xs x
-
-abbrev pub with_record : JobTexts → Item → JobTexts
-with_record t x = record { epoch = t.epoch; moment = t.moment; items = t.items ++ x ∷ [] }
 
 pub begins-more : (limits : Limits) (numbers later : HeldSoFar) (b : List ℕ) (t : JobTexts) (x : Item) → Begins limits numbers b t → FitsItem limits numbers x → later ≡ with_item numbers x
     → Begins limits later (b ++ record_text x) (with_record t x)

@@ -18,3 +18,4 @@ pub mod Fitting
 pub mod ReadFacts
 pub mod JobStanding
 pub mod FitsGiven
+pub mod Walks

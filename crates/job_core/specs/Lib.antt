@@ -8,3 +8,4 @@ pub mod Pulling
 pub mod Partial
 pub mod Fitting
 pub mod Reader
+pub mod Walks

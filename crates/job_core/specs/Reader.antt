@@ -1,5 +1,5 @@
 -- What a reader of a job has read, and what it gives.
-use Rattle.std.specs.Prelude.{◌≡◌, ℕ, ◌<◌, ◌≤◌, ◌^◌, List, [], ◌++◌, length, take, flat_map, Option, Some, None, Result, Ok, Err}
+use Rattle.std.specs.Prelude.{◌≡◌, ℕ, ◌<◌, ◌≤◌, ◌^◌, List, [], ◌∷◌, ◌++◌, length, take, flat_map, Option, Some, None, Result, Ok, Err}
 use Rattle.std.specs.Int.{w8, to_be_bytes}
 use Rattle.outside_core.specs.declared.depot.Depot.{Ghosts}
 use Rattle.outside_core.specs.declared.feed.Feed.{Feed}
@@ -12,7 +12,7 @@ use Rattle.job_core.specs.declared.reader.Stage.{Stage}
 use Rattle.job_core.specs.declared.reader.Stage.TheVariants as stages
 use Rattle.job_core.specs.declared.reader.Record.{Record}
 use Rattle.job_core.specs.declared.reader.Record.TheVariants as records
-use Rattle.job_core.specs.JobLayout.{HeldSoFar, nothing_held, OneRange, OneCrl, OneEntry, JobTexts, job}
+use Rattle.job_core.specs.JobLayout.{HeldSoFar, nothing_held, Item, OneRange, OneCrl, OneEntry, JobTexts, job}
 use Rattle.job_core.specs.JobText.{opening_text, record_text, Pass, held_behind, crl_held, entry_held, FitsCrl, FitsEntry}
 use Rattle.job_core.specs.Partial.{held_in}
 use Rattle.job_core.specs.Pulling.{IsOfBytes}
@@ -28,6 +28,10 @@ pub record Begins (limits : Limits) (numbers : HeldSoFar) (b : List ℕ) (t : Jo
   pub moment : t.moment < 2 ^ 64
   pub pass : Pass no_serials limits nothing_held 0 t.items
   pub held : numbers ≡ held_behind nothing_held t.items
+
+-- with one record more
+abbrev pub with_record : JobTexts → Item → JobTexts
+with_record t x = record { epoch = t.epoch; moment = t.moment; items = t.items ++ x ∷ [] }
 
 abbrev pub StandsAt : Stage → Limits → HeldSoFar → List ℕ → Type 0
 StandsAt stages.Opening limits numbers b = (b ≡ []) × (numbers ≡ nothing_held)

@@ -12,7 +12,9 @@ mod read_facts;
 mod reader;
 mod reading;
 mod reading_from;
+mod record_texts;
 mod records;
+mod walking;
 mod writing;
 
 pub use bounds::{Limits, What};
@@ -24,4 +26,6 @@ pub use read_facts::jobs_that_are_read_fit;
 pub use reader::{JobReader, Record};
 pub use reading::read_job;
 pub use reading_from::read_job_from;
+pub use record_texts::RecordText;
+pub use walking::JobRecords;
 pub use writing::{job_fits, write_job};

@@ -34,7 +34,8 @@ pub enum Item {
     Entry,
 }
 
-fn is_kind_after(previous: u8, kind: u8) -> bool
+/// Whether a record of a kind may stand behind one of the previous kind.
+pub fn is_kind_after(previous: u8, kind: u8) -> bool
     ensures is { result ≡ is_kind previous kind }
     ensures known { result ≡ true → kind ≤ 3 }
 {

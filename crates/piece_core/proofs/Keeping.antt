@@ -44,13 +44,11 @@ one_text x true = append-nil (record_text x)
 one_text x false = refl
 
 -- with one record more, which is kept or not
-pub kept_more : (cut : Cut) (xs : List Item) (x : Item) (b : Bool) → b ≡ keeps_item cut x
-    → texts_of (kept cut (xs ++ x ∷ [])) ≡ texts_of (kept cut xs) ++ (if b then record_text x else [])
-kept_more cut xs x b is =
+pub kept_more : (cut : Cut) (xs : List Item) (x : Item) → texts_of (kept cut (xs ++ x ∷ [])) ≡ texts_of (kept cut xs) ++ (if keeps_item cut x then record_text x else [])
+kept_more cut xs x =
     ap texts_of (filter-append (keeps_item cut) xs (x ∷ []))
     ∙ flat_map-append record_text (kept cut xs) (kept cut (x ∷ []))
     ∙ ap (λ (l : List ℕ). texts_of (kept cut xs) ++ l) (one_text x (keeps_item cut x))
-    ∙ ap (λ (c : Bool). texts_of (kept cut xs) ++ (if c then record_text x else [])) (sym is)
 
 all_ranges : (cut : Cut) (rs : List Range) → kept cut (map (λ r. OneRange r) rs) ≡ map (λ r. OneRange r) rs
 all_ranges cut [] = refl
@@ -62,11 +60,9 @@ kept_items cut rs cs es =
     let R : List Item = map (λ r. OneRange r) rs in
     let C : List Item = map (λ c. OneCrl c) cs in
     let E : List Item = map (λ e. OneEntry e) es in
-    filter-append (keeps_item cut) R (C ++ E)
-    ∙ ap (λ (l : List Item). l ++ kept cut (C ++ E)) (all_ranges cut rs)
-    ∙ ap (λ (l : List Item). R ++ l) (filter-append (keeps_item cut) C E
-    ∙ ap (λ (l : List Item). l ++ kept cut E) (sym (map_filter (λ c. OneCrl c) (keeps_item cut) cs))
-    ∙ ap (λ (l : List Item). map (λ c. OneCrl c) (filter (λ (c : CrlText). cut.takes c.issuer) cs) ++ l) (sym (map_filter (λ e. OneEntry e) (keeps_item cut) es)))
+    let crls = map_filter (λ c. OneCrl c) (keeps_item cut) cs in
+    let entries = map_filter (λ e. OneEntry e) (keeps_item cut) es in
+    rw (filter-append (keeps_item cut) R (C ++ E), all_ranges cut rs, filter-append (keeps_item cut) C E, ← crls, ← entries) refl
 
 -- the texts of what is kept of a job's records are the text of the job, cut
 pub cut_spelled : (cut : Cut) (limits : Limits) (t : JobTexts) → Pass no_serials limits nothing_held 0 t.items

@@ -2,4 +2,3 @@ pub mod Growing
 pub mod Places
 pub mod Keeping
 pub mod Fronts
-pub mod Going

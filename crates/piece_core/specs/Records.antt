@@ -1,9 +1,6 @@
 -- Which pieces keep a record of a job.
 use Rattle.std.specs.Prelude.{ℕ, List, Option, Some, None}
-use Rattle.job_core.specs.declared.reader.Record.{Record}
-use Rattle.job_core.specs.declared.reader.Record.TheVariants as records
-use Rattle.job_core.specs.JobLayout.{entry_meaning}
-use Rattle.job_core.specs.JobText.{entry_held}
+use Rattle.job_core.specs.JobLayout.{Item, OneRange, OneCrl, OneEntry, entry_meaning}
 use Rattle.place_core.specs.declared.place.By.{By}
 use Rattle.place_core.specs.declared.place.By.TheVariants as ways
 use Rattle.place_core.specs.Places.{issuer_place}
@@ -15,9 +12,7 @@ crl_place ways.Issuer count issuer = Some (issuer_place issuer count)
 crl_place ways.Identity count issuer = None
 
 -- the place whose piece alone keeps a record; or none, where each piece does
-abbrev pub place_of_record : By → ℕ → Record → Option ℕ
-place_of_record by count (records.Begin epoch moment) = None
-place_of_record by count (records.Range r) = None
-place_of_record by count (records.Crl c) = crl_place by count c.issuer
-place_of_record by count (records.Entry e) = Some (entry_place by count (entry_meaning (entry_held e)))
-place_of_record by count records.End = None
+abbrev pub place_of_record : By → ℕ → Item → Option ℕ
+place_of_record by count (OneRange r) = None
+place_of_record by count (OneCrl c) = crl_place by count c.issuer
+place_of_record by count (OneEntry e) = Some (entry_place by count (entry_meaning e))

@@ -1,15 +1,13 @@
 //! Which pieces keep a record.
 
 ghost use Rattle.std.specs.Prelude.{◌≡◌, ◌<◌, IfSome};
-ghost use Rattle.job_core.specs.JobLayout.{entry_meaning};
-ghost use Rattle.job_core.specs.JobText.{entry_held};
+ghost use Rattle.job_core.specs.Records.{item_shown};
 ghost use Rattle.place_core.specs.Places.{place_in};
-ghost use Rattle.piece_core.specs.Cuts.{entry_place};
 ghost use Rattle.piece_core.specs.Records.{place_of_record};
 
 use crate::issuers::IssuerPlaces;
 use ident_core::Identity;
-use job_core::{RawEntry, Record};
+use job_core::RecordText;
 use log_core::read_entry;
 use place_core::{By, PlaceCount, place_of as place_of_identity};
 
@@ -24,33 +22,26 @@ fn place_of_id(by: By, count: PlaceCount, id: &Identity, issuers: &mut IssuerPla
     }
 }
 
-/// The place of an entry; one that can't be read has the first.
-fn place_of_entry(by: By, count: PlaceCount, entry: &RawEntry, issuers: &mut IssuerPlaces) -> u32
-    ensures value { result ≡ entry_place by count (entry_meaning (entry_held entry.now)) }
-    ensures below { result < count }
-{
-    match read_entry(entry.log, &entry.leaf, &entry.extra) {
-        Ok(entry) => place_of_id(by, count, &entry.id, issuers),
-        Err(_) => 0,
-    }
-}
-
-/// The place whose piece alone keeps the record; or none, where each piece does.
+/// The place whose piece alone keeps the record; or none, where each piece does. An entry that can't be read has the
+/// first.
 pub fn place_of(
     by: By,
     count: PlaceCount,
-    record: &Record,
+    record: &RecordText<'_>,
     issuers: &mut IssuerPlaces,
 ) -> Option<u32>
-    ensures value { result ≡ place_of_record by count record.now }
+    ensures value { result ≡ place_of_record by count (item_shown record.now) }
     ensures below { IfSome result (λ p. p < count) }
 {
     match record {
-        Record::Crl(crl) => match by {
-            By::Issuer => Some(issuers.place_of(&crl.issuer, count)),
+        RecordText::Range(_) => None,
+        RecordText::Crl { issuer, .. } => match by {
+            By::Issuer => Some(issuers.place_of(issuer, count)),
             By::Identity => None,
         },
-        Record::Entry(entry) => Some(place_of_entry(by, count, entry, issuers)),
-        _ => None,
+        RecordText::Entry { log, leaf, extra } => match read_entry(*log, leaf, extra) {
+            Ok(entry) => Some(place_of_id(by, count, &entry.id, issuers)),
+            Err(_) => Some(0),
+        },
     }
 }

@@ -11,8 +11,7 @@ use outside_core::{Depot, Failed, append_all};
 use std::alloc::Global;
 use std::marker::Model;
 
-/// How many bytes are offered together: a multiple of what one call of a depot is offered, so that the calls are those
-/// of the whole text.
+/// How many bytes are offered together.
 const ROOM: usize = 65_536;
 
 /// The bytes of a text that aren't offered yet.

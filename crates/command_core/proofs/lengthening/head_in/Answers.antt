@@ -24,7 +24,7 @@ returns-in_err-new-clause-refused g c =
     (input_whole (g.D.Depot.files c.args.depot.now) (WhichFailed g.D.Depot c.args.depot.now _) c.args.name.now c.in_ok-bytes.bytes.items head_in (λ (x : JobContents). x)
     (Err (of_job c.in_err-new.field-0.0)) c.in_ok-bytes.bytes
     (all_of (g.D.Depot.files c.args.depot.now) c.args.name.now (Ok c.in_ok-bytes.bytes) c.in_ok-bytes.ensures.bytes) c.in_ok-bytes.ensures.unblamed
-    (faulted_err of_job job.NoMemory c.in_err-new.field-0.0 (λ (x : JobContents). x) _ refl c.in_err-new.ensures.err))
+    (faulted_err of_job job.NoMemory c.in_err-new.field-0.0 (λ (x : JobContents). x) _ refl (λ _. c.in_err-new.ensures.err)))
 
 pub returns-clause-opened : goal.returns-clause-opened
 returns-clause-opened g c =

@@ -21,7 +21,7 @@ returns-in_err-piece-clause-refused g c =
     rw (p.1, p.2)
     (piece_refused (g.D.Depot.files c.args.depot.now) (WhichFailed g.D.Depot c.args.depot.now _) c.args.name.now c.in_ok-bytes.bytes.items c.args.epoch c.in_ok-bytes.bytes
     (all_of (g.D.Depot.files c.args.depot.now) c.args.name.now (Ok c.in_ok-bytes.bytes) c.in_ok-bytes.ensures.bytes) c.in_ok-bytes.ensures.unblamed c.in_err-piece.field-0.0
-    c.in_err-piece.ensures.err)
+    (λ _. c.in_err-piece.ensures.err))
 
 pub returns-then-piece-epoch-clause-refused : goal.returns-then-piece-epoch-clause-refused
 returns-then-piece-epoch-clause-refused g c =

@@ -1,10 +1,10 @@
-use Rattle.std.proofs.Common.{◌-◌, length}
-use Rattle.outside_core.specs.Standing.{place_of}
-use Rattle.gather_core.proofs.Reading.{Going}
+use Rattle.std.proofs.Common.{◌≡◌}
+use Rattle.job_core.specs.JobLayout.{JobTexts}
+use Rattle.job_core.specs.Walks.{HasRead, left_of}
 use Rattle.gather_core.proofs.counting.count_records.Given as goal
 
-abbrev pub invariant-loop-given : goal.invariant-loop-given
-invariant-loop-given l = Going l.fn.limits l.bytes l.reader l.feed (record { epoch = l.epoch; ranges = l.ranges; entries = l.entries })
+abbrev pub invariant-loop-records : goal.invariant-loop-records
+invariant-loop-records l = (t : JobTexts) × HasRead l.fn.limits l.records l.bytes t × (l.epoch ≡ t.epoch)
 
-abbrev pub decreases-loop-given : goal.decreases-loop-given
-decreases-loop-given l = length l.bytes - place_of l.feed
+abbrev pub decreases-loop-records : goal.decreases-loop-records
+decreases-loop-records l = left_of l.records

@@ -1,9 +1,0 @@
-use Rattle.std.proofs.Common.{◌≡◌, ◌≤◌, ◌-◌, ℕ, [], length}
-use Rattle.piece_core.specs.Texts.{text_at}
-use Rattle.piece_core.proofs.texts.no_texts.Given as goal
-
-abbrev pub invariant-loop-alloc : goal.invariant-loop-alloc
-invariant-loop-alloc l = record { few : length l.texts.items ≤ l.places; empty : (p : ℕ) → text_at l.texts.items p ≡ [] }
-
-abbrev pub decreases-loop-alloc : goal.decreases-loop-alloc
-decreases-loop-alloc l = l.places - length l.texts.items
